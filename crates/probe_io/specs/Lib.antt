@@ -1,0 +1,6 @@
+pub mod Causes
+pub mod Files
+pub mod Written
+pub mod Text
+pub mod Plan
+pub mod Memory

@@ -1,0 +1,41 @@
+// Lines of text from their pieces.
+ghost use Rattle.std.specs.Prelude.{OnOk, OnErr};
+ghost use Rattle.probe_io.specs.Causes.{HasCause};
+ghost use Rattle.probe_io.specs.Text.{piece_text, pieces_text};
+ghost use Rattle.probe_io.specs.Written.{Appends, AppendsFront};
+
+use crate::outside::{Failed, Sink};
+use crate::writing::put_all;
+use itoa::Buffer;
+
+/// A piece of printed text: bytes as they stand, or a number in plain decimal.
+#[derive(Clone, Copy, Debug)]
+pub enum Piece<'a> {
+    Text(&'a [u8]),
+    Number(u64),
+}
+
+/// Writes the texts of the pieces, one behind the other. After `Failed`, a front of that text was
+/// written. It takes no memory.
+pub fn put_pieces<K: Sink>(sink: &mut K, pieces: &[Piece]) -> Result<(), Failed>
+    ensures ok { OnOk result (Appends (K.written sink.old) (K.written sink.new) (pieces_text pieces.now)) }
+    ensures front { OnErr result (AppendsFront (K.written sink.old) (K.written sink.new) (pieces_text pieces.now)) }
+    ensures cause { HasCause (K.faults sink.old) (K.faults sink.new) result }
+{
+    for piece in pieces {
+        put_piece(sink, piece)?;
+    }
+    Ok(())
+}
+
+// Writes the text of one piece.
+fn put_piece<K: Sink>(sink: &mut K, piece: &Piece) -> Result<(), Failed>
+    ensures ok { OnOk result (Appends (K.written sink.old) (K.written sink.new) (piece_text piece.now)) }
+    ensures front { OnErr result (AppendsFront (K.written sink.old) (K.written sink.new) (piece_text piece.now)) }
+    ensures cause { HasCause (K.faults sink.old) (K.faults sink.new) result }
+{
+    match piece {
+        Piece::Text(text) => put_all(sink, text),
+        Piece::Number(number) => put_all(sink, Buffer::new().format(*number).as_bytes()),
+    }
+}

@@ -1,0 +1,137 @@
+// The devices of the system. Nothing is known of what the system gives or takes: they tell no content.
+ghost use Rattle.std.specs.Prelude.{◌≡◌, ◌<◌, ◌≤◌, None, length, IfOk};
+
+use crate::outside::{Failed, Shelf, Sink};
+use std::fs;
+use std::io::{ErrorKind, Read, Write};
+use std::rt::Files;
+
+/// The files of the system. It tells none of them, and counts each start and each read that fails.
+#[derive(Drop)]
+pub struct FileShelf<'a, R: Files> {
+    rt: &'a R,
+    file: Option<R::File>,
+    start_faults: u64,
+    read_faults: u64,
+}
+
+impl<'a, R: Files> FileShelf<'a, R> {
+    /// The files that this runtime reaches, with nothing started.
+    pub fn new(rt: &'a R) -> FileShelf<'a, R>
+        ensures files { ⟦<FileShelf<'a, R> as Shelf>⟧.files result ≡ None }
+        ensures closed { ⟦<FileShelf<'a, R> as Shelf>⟧.at result ≡ None }
+        ensures no_start_faults { ⟦<FileShelf<'a, R> as Shelf>⟧.start_faults result ≡ 0 }
+        ensures no_read_faults { ⟦<FileShelf<'a, R> as Shelf>⟧.read_faults result ≡ 0 }
+    {
+        FileShelf {
+            rt,
+            file: None,
+            start_faults: 0,
+            read_faults: 0,
+        }
+    }
+}
+
+impl<'a, R: Files> Shelf for FileShelf<'a, R> {
+    ghost files = { λ _. None };
+
+    ghost at = { λ _. None };
+
+    ghost start_faults = { λ s. s.start_faults };
+
+    ghost read_faults = { λ s. s.read_faults };
+
+    fn start(&mut self, name: &str) -> Result<(), Failed> {
+        self.file = None;
+        match fs::open(self.rt, name) {
+            Ok(file) => {
+                self.file = Some(file);
+                Ok(())
+            }
+            Err(_) => {
+                self.start_faults = self.start_faults.saturating_add(1);
+                Err(Failed)
+            }
+        }
+    }
+
+    fn read(&mut self, buf: &mut [u8]) -> Result<usize, Failed> {
+        let Some(file) = &mut self.file else {
+            return Ok(0);
+        };
+        let outcome = read_some(file, buf);
+        if outcome.is_err() {
+            self.read_faults = self.read_faults.saturating_add(1);
+        }
+        outcome
+    }
+
+    fn stop(&mut self) {
+        self.file = None;
+    }
+}
+
+// One read, tried again as long as a signal interrupts it.
+fn read_some<F: Read>(file: &mut F, buf: &mut [u8]) -> Result<usize, Failed>
+    ensures { IfOk result (λ n. n ≤ length buf.new) }
+{
+    for _ in 0..u64::MAX {
+        match file.read(buf) {
+            Ok(count) => return Ok(count),
+            Err(error) if error.kind() == ErrorKind::Interrupted => {}
+            Err(_) => return Err(Failed),
+        }
+    }
+    Err(Failed)
+}
+
+/// A stream of the system, or any other writer. It tells nothing of what was written, and counts each
+/// write that fails. That a writer takes none of some bytes is a failure.
+#[derive(Drop)]
+pub struct StreamSink<W: Write + Drop> {
+    inner: W,
+    faults: u64,
+}
+
+impl<W: Write + Drop> StreamSink<W> {
+    /// A sink that writes to this writer.
+    pub fn new(inner: W) -> StreamSink<W>
+        ensures written { ⟦<StreamSink<W> as Sink>⟧.written result ≡ None }
+        ensures no_faults { ⟦<StreamSink<W> as Sink>⟧.faults result ≡ 0 }
+    {
+        StreamSink { inner, faults: 0 }
+    }
+}
+
+impl<W: Write + Drop> Sink for StreamSink<W> {
+    ghost written = { λ _. None };
+
+    ghost faults = { λ s. s.faults };
+
+    fn write(&mut self, piece: &[u8]) -> Result<usize, Failed> {
+        if piece.is_empty() {
+            return Ok(0);
+        }
+        let outcome = write_some(&mut self.inner, piece);
+        if outcome.is_err() {
+            self.faults = self.faults.saturating_add(1);
+        }
+        outcome
+    }
+}
+
+// One write of at least one byte, tried again as long as a signal interrupts it.
+fn write_some<W: Write>(writer: &mut W, piece: &[u8]) -> Result<usize, Failed>
+    ensures some { IfOk result (λ n. 0 < n) }
+    ensures most { IfOk result (λ n. n ≤ length piece.now) }
+{
+    for _ in 0..u64::MAX {
+        match writer.write(piece) {
+            Ok(0) => return Err(Failed),
+            Ok(count) => return Ok(count),
+            Err(error) if error.kind() == ErrorKind::Interrupted => {}
+            Err(_) => return Err(Failed),
+        }
+    }
+    Err(Failed)
+}

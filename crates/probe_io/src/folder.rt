@@ -55,9 +55,16 @@ impl Folder {
         ensures closed { result ≡ false → self.new.at ≡ None }
         ensures same { self.new.files ≡ self.old.files }
     {
-        let found = index_of(&self.files, name);
-        self.cursor = found.map(|file| Cursor { file, place: 0 });
-        found.is_some()
+        match index_of(&self.files, name) {
+            Some(file) => {
+                self.cursor = Some(Cursor { file, place: 0 });
+                true
+            }
+            None => {
+                self.cursor = None;
+                false
+            }
+        }
     }
 
     /// Puts the next bytes of the started file at the front of `buf`, at most `most` of them, and

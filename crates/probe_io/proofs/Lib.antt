@@ -1,0 +1,4 @@
+pub mod CauseLemmas
+pub mod WrittenLemmas
+mod PieceLemmas
+mod FolderLemmas

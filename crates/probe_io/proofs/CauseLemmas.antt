@@ -1,5 +1,5 @@
 -- How counts of faults go on over several calls.
-use Rattle.std.proofs.Common.{◌≡◌, ℕ, ◌<◌, ◌≤◌, ◌⊎◌, inl, inr, Result, Ok, Err, OnErr, arith}
+use Rattle.std.proofs.Common.{ℕ, ◌≤◌, inl, inr, Result, Ok, Err, OnErr, arith}
 use Rattle.probe_io.specs.Causes.{Rose, HasCause}
 
 -- what rose in a call, rose in it and calls before it

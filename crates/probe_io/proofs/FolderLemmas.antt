@@ -1,5 +1,5 @@
 -- Files in memory: the first of a name, and the bytes that are left in it.
-use Rattle.std.proofs.Common.{◌≡◌, ℕ, ◌+◌, ◌-◌, ◌<◌, ◌≤◌, List, [], ◌∷◌, ◌++◌, length, take, drop, map, get_or, slice_get, ltb, find, position, bytes_eq, cond, not, true, false, Bool, Option, None, Some, option_map, unwrap_or, refl, sym, ◌∙◌, ap, arith}
+use Rattle.std.proofs.Common.{◌≡◌, ℕ, ◌+◌, List, [], ◌∷◌, ◌++◌, length, take, drop, map, get_or, slice_get, ltb, find, position, bytes_eq, cond, not, true, false, Bool, None, Some, option_map, unwrap_or, refl, sym, ◌∙◌, ap, arith}
 use Rattle.std.specs.Global.{Global}
 use Rattle.std.specs.List.{position_or_len}
 use Rattle.std.specs.declared.vec.Vec.{Vec}

@@ -1,5 +1,5 @@
 -- The files of a shelf, where it tells them: a list of names with bytes, in which the first of a name counts.
-use Rattle.std.specs.Prelude.{◌≡◌, ℕ, ◌+◌, ◌<◌, List, [], length, drop, find, bytes_eq, Option, None, Some, option_map, unwrap_or, IfSome, IsSomeAnd, Result, IfOk, OnErr}
+use Rattle.std.specs.Prelude.{◌≡◌, ℕ, ◌+◌, ◌<◌, List, [], length, drop, find, bytes_eq, Option, None, Some, option_map, unwrap_or, IfSome, IsSomeAnd}
 
 -- a file: its name and its bytes
 abbrev pub File : Type 0

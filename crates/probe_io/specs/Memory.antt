@@ -1,5 +1,5 @@
 -- What is seen of the devices in memory.
-use Rattle.std.specs.Prelude.{◌≡◌, ℕ, ◌<◌, ◌≤◌, List, [], length, map, Option, slice_index_or, find, bytes_eq, Some}
+use Rattle.std.specs.Prelude.{◌≡◌, ℕ, ◌<◌, ◌≤◌, List, [], length, Option, slice_index_or, find, bytes_eq, Some}
 use Rattle.std.specs.Global.{Global}
 use Rattle.std.specs.declared.vec.Vec.{Vec}
 use Rattle.probe_io.specs.Files.{File, Place}

@@ -5,8 +5,8 @@ ghost use Rattle.probe_io.specs.Causes.{Rose, HasCause};
 ghost use Rattle.probe_io.specs.Files.{File, Place, Lacks, left_at, moved_on};
 ghost use Rattle.probe_io.specs.Written.{Appends};
 
-/// A device failed in this call. Which call it was, and whether the device or the caller's name is to
-/// blame, the clauses of the traits say by their counts.
+/// A call of a device failed: a count of the device's faults rose, or it tells that it has no file of
+/// the name that was to be started.
 #[derive(Clone, Copy, Debug, PartialEq, Eq)]
 pub struct Failed;
 

@@ -5,14 +5,18 @@ ghost use Rattle.probe_io.specs.Text.{piece_text, pieces_text};
 ghost use Rattle.probe_io.specs.Written.{Appends, AppendsFront};
 
 use crate::outside::{Failed, Sink};
-use crate::writing::put_all;
+use crate::writing::{put_all, put_number};
 use itoa::Buffer;
 
-/// A piece of printed text: bytes as they stand, or a number in plain decimal.
+/// A piece of printed text.
 #[derive(Clone, Copy, Debug)]
 pub enum Piece<'a> {
+    /// Bytes as they stand.
     Text(&'a [u8]),
+    /// A number in plain decimal.
     Number(u64),
+    /// A number in plain decimal, with a `-` before it where it is negative.
+    Signed(i64),
 }
 
 /// Writes the texts of the pieces, one behind the other. After `Failed`, a front of that text was
@@ -37,5 +41,6 @@ fn put_piece<K: Sink>(sink: &mut K, piece: &Piece) -> Result<(), Failed>
     match piece {
         Piece::Text(text) => put_all(sink, text),
         Piece::Number(number) => put_all(sink, Buffer::new().format(*number).as_bytes()),
+        Piece::Signed(number) => put_number(sink, *number),
     }
 }

@@ -25,9 +25,11 @@ const CHUNK: usize = 8192;
 
 /// Reads the whole file of this name, of at most `limit` bytes. Nothing is started afterwards.
 ///
-/// `StartFailed` comes only where the shelf failed to start it or tells that it has no such file, and
-/// then always; `ReadFailed` only where a read failed. Where the shelf tells its files, `TooLong`
-/// comes for a file of over `limit` bytes alone, which is never given as read.
+/// `StartFailed` comes only where starting the file raised `start_faults`, or where the shelf tells
+/// its files and has none of this name; there it always comes, and raises no count. `ReadFailed`
+/// comes only where a read raised `read_faults`. Where the shelf tells its files, a file of over
+/// `limit` bytes is never given, and `TooLong` comes for no other. Want of memory may come instead
+/// of any of these once the file is started.
 pub fn read_all<H: Shelf>(
     alloc: Global,
     shelf: &mut H,

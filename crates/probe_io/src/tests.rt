@@ -84,10 +84,8 @@ fn writes_fronts_and_wholes(rt: HostRuntime) -> Result<(), Fail> {
     let line = b"total -12 of 7\n".as_slice();
     for step in 1..20 {
         let mut sink = MemSink::new(alloc, Vec::new(alloc), step);
-        put_pieces(&mut sink, &[Piece::Text(b"total ")])
-            .ok()
-            .ok_or("total")?;
-        put_number(&mut sink, -12).ok().ok_or("number")?;
+        let total = [Piece::Text(b"total "), Piece::Signed(-12)];
+        put_pieces(&mut sink, &total).ok().ok_or("total")?;
         let pieces = [
             Piece::Text(b" of "),
             Piece::Number(7),

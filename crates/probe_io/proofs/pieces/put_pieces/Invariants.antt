@@ -1,4 +1,4 @@
-use Rattle.std.proofs.Common.{ℕ, take, ◌≤◌}
+use Rattle.std.proofs.Common.{take, ◌≤◌}
 use Rattle.probe_io.specs.Text.{pieces_text}
 use Rattle.probe_io.specs.Written.{Appends}
 use Rattle.probe_io.proofs.pieces.put_pieces.Given as goal

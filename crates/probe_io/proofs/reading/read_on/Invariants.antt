@@ -1,4 +1,4 @@
-use Rattle.std.proofs.Common.{◌≡◌, ℕ, length, vec_len, ◌-◌, ◌+◌, ◌≤◌}
+use Rattle.std.proofs.Common.{◌≡◌, vec_len, ◌-◌, ◌≤◌}
 use Rattle.std.specs.Io.KnownBytes.{Consumes}
 use Rattle.probe_io.specs.Files.{left_at}
 use Rattle.probe_io.proofs.reading.read_on.Given as goal

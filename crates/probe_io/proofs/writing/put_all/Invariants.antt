@@ -1,4 +1,4 @@
-use Rattle.std.proofs.Common.{ℕ, length, take, ◌-◌, ◌≤◌}
+use Rattle.std.proofs.Common.{length, take, ◌-◌, ◌≤◌}
 use Rattle.probe_io.specs.Written.{Appends}
 use Rattle.probe_io.proofs.writing.put_all.Given as goal
 

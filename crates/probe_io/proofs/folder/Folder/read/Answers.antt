@@ -1,4 +1,4 @@
-use Rattle.std.proofs.Common.{◌≡◌, ℕ, ◌-◌, List, map, min, length, take, drop, Some, option_map, ap, sym, ◌∙◌}
+use Rattle.std.proofs.Common.{◌≡◌, ◌-◌, map, min, length, take, drop, Some, option_map, ap, sym, ◌∙◌}
 use Rattle.probe_io.specs.Files.{left_in}
 use Rattle.probe_io.specs.Memory.{told_file, file_at}
 use Rattle.probe_io.proofs.WrittenLemmas.{slice_from}

@@ -2,9 +2,9 @@
 ghost use Rattle.std.specs.Prelude.{◌≡◌, ◌<◌, ◌≤◌, None, length, IfOk};
 
 use crate::outside::{Failed, Shelf, Sink};
-use std::fs;
 use std::io::{ErrorKind, Read, Write};
 use std::rt::Files;
+use std::{fmt, fs};
 
 /// The files of the system. It tells none of them, and counts each start and each read that fails.
 #[derive(Drop)]
@@ -29,6 +29,17 @@ impl<'a, R: Files> FileShelf<'a, R> {
             start_faults: 0,
             read_faults: 0,
         }
+    }
+}
+
+impl<R: Files> fmt::Debug for FileShelf<'_, R> {
+    fn fmt<W: fmt::Write>(&self, f: &mut fmt::Formatter<W>) -> fmt::Result {
+        let start_faults = self.start_faults;
+        let read_faults = self.read_faults;
+        write!(
+            f,
+            "FileShelf {{ start_faults: {start_faults}, read_faults: {read_faults}, .. }}"
+        )
     }
 }
 
@@ -87,7 +98,7 @@ fn read_some<F: Read>(file: &mut F, buf: &mut [u8]) -> Result<usize, Failed>
 
 /// A stream of the system, or any other writer. It tells nothing of what was written, and counts each
 /// write that fails. That a writer takes none of some bytes is a failure.
-#[derive(Drop)]
+#[derive(Debug, Drop)]
 pub struct StreamSink<W: Write + Drop> {
     inner: W,
     faults: u64,

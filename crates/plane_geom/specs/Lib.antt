@@ -1,0 +1,5 @@
+pub mod Bounds
+pub mod Cells
+pub mod Covering
+pub mod Names
+pub mod Placement

@@ -1,4 +1,5 @@
 pub mod Counting
 pub mod Ranges
 pub mod Reaching
+pub mod Rows
 pub mod Turning

@@ -1,6 +1,6 @@
 -- How turns and places move points.
-use Rattle.std.proofs.Common.{◌≡◌, ℕ, ◌+◌, ◌^◌, Bool, true, false, cond, List, [], ◌∷◌, ◌++◌, refl, sym, ap, ◌∙◌, arith}
-use Rattle.std.specs.Prelude.{ℤ, pos, neg_ℤ, ◌+ℤ◌, ◌≤ℤ◌, ◌↔◌, IsTrue, IsSome, IfSome, Option, Some, None}
+use Rattle.std.proofs.Common.{◌≡◌, ℕ, ◌+◌, Bool, true, false, cond, List, [], ◌∷◌, ◌++◌, refl, sym, ap, ◌∙◌, arith}
+use Rattle.std.specs.Prelude.{◌==◌, int_lt, nat_abs, ℤ, pos, neg_ℤ, ◌+ℤ◌, ◌↔◌, IsTrue, IsSome, IfSome, Option}
 use Rattle.std.specs.Bool.{then_some}
 use Rattle.std.proofs.lemmas.Int.{ints}
 use Rattle.std.proofs.lemmas.Bool.{false≢true}
@@ -8,7 +8,7 @@ use Rattle.plane_geom.specs.declared.shapes.Point.{Point}
 use Rattle.plane_geom.specs.declared.places.Turn.{Turn}
 use Rattle.plane_geom.specs.declared.places.Place.{Place}
 use Rattle.plane_geom.specs.Bounds.{IsWithin, IsPointWithin}
-use Rattle.plane_geom.specs.Placement.{Step, shift, negate_x, negate_y, exchange, moved, moved_once, step_if, turn_steps, steps_of, placed, IsPlaceOf, IsShiftWithin}
+use Rattle.plane_geom.specs.Placement.{Step, shift, negate_x, negate_y, exchange, moved, moved_once, step_if, turn_steps, placed, IsPlaceOf, IsShiftWithin}
 
 -- steps one after the other
 pub moved-append : (before after : List Step) (p : Point) → moved (before ++ after) p ≡ moved after (moved before p)
@@ -118,3 +118,75 @@ some_within bound to made false r e f h = rw (h, ← e) (λ x. absurd (false≢t
 pub some_is : (to made : Point) (b : Bool) (r : Option Point) → made ≡ to → r ≡ then_some b made → IfSome r (λ q. q ≡ to)
 some_is to made true r e h = rw h e
 some_is to made false r e h = rw h tt
+
+-- ---- one place for the same steps
+
+-- what a coordinate of the turned point (1, 2) tells of the turn
+exchanged : ℤ → Bool
+exchanged z = nat_abs z == 2
+
+negated : ℤ → Bool
+negated z = int_lt z (pos 0)
+
+exchanged_is : (swap neg : Bool) → exchanged (negated_if neg (cond swap (pos 2) (pos 1))) ≡ swap
+unfolding exchanged
+exchanged_is true true = refl
+exchanged_is true false = refl
+exchanged_is false true = refl
+exchanged_is false false = refl
+
+negated_x : (swap neg : Bool) → negated (negated_if neg (cond swap (pos 2) (pos 1))) ≡ neg
+unfolding negated
+negated_x true true = refl
+negated_x true false = refl
+negated_x false true = refl
+negated_x false false = refl
+
+negated_y : (swap neg : Bool) → negated (negated_if neg (cond swap (pos 1) (pos 2))) ≡ neg
+unfolding negated
+negated_y true true = refl
+negated_y true false = refl
+negated_y false true = refl
+negated_y false false = refl
+
+-- where a place takes a point, as numbers
+placed_at : (a : Place) (p : Point) → placed a p ≡ plus (turned_with a.turn.swap a.turn.neg_x a.turn.neg_y p) (record { x = a.dx; y = a.dy })
+placed_at a p = placed_is a p ∙ ap (λ q. plus q (record { x = a.dx; y = a.dy })) (turned_is a.turn p)
+
+origin : Point
+origin = record { x = pos 0; y = pos 0 }
+
+pair : Point
+pair = record { x = pos 1; y = pos 2 }
+
+still : (b c : Bool) (z : ℤ) → negated_if b (cond c (pos 0) (pos 0)) +ℤ z ≡ z
+still true true z = omega (arith, ints)
+still true false z = omega (arith, ints)
+still false true z = omega (arith, ints)
+still false false z = omega (arith, ints)
+
+cancelled : (a b c d : ℤ) → a +ℤ c ≡ b +ℤ d → c ≡ d → a ≡ b
+cancelled a b c d e f = omega (arith, ints)
+
+-- Two places that move all points alike are one place.
+pub place_unique : (a b : Place) → ((p : Point) → placed a p ≡ placed b p) → a ≡ b
+unfolding origin pair
+place_unique a b same =
+    let at_origin = sym (placed_at a origin) ∙ same origin ∙ placed_at b origin in
+    let dx : a.dx ≡ b.dx = sym (still a.turn.neg_x a.turn.swap a.dx) ∙ ap (λ (p : Point). p.x) at_origin ∙ still b.turn.neg_x b.turn.swap b.dx in
+    let dy : a.dy ≡ b.dy = sym (still a.turn.neg_y a.turn.swap a.dy) ∙ ap (λ (p : Point). p.y) at_origin ∙ still b.turn.neg_y b.turn.swap b.dy in
+    let at_pair = sym (placed_at a pair) ∙ same pair ∙ placed_at b pair in
+    let x = cancelled _ _ _ _ (ap (λ (p : Point). p.x) at_pair) dx in
+    let y = cancelled _ _ _ _ (ap (λ (p : Point). p.y) at_pair) dy in
+    let swap = sym (exchanged_is a.turn.swap a.turn.neg_x) ∙ ap exchanged x ∙ exchanged_is b.turn.swap b.turn.neg_x in
+    let neg_x = sym (negated_x a.turn.swap a.turn.neg_x) ∙ ap negated x ∙ negated_x b.turn.swap b.turn.neg_x in
+    let neg_y = sym (negated_y a.turn.swap a.turn.neg_y) ∙ ap negated y ∙ negated_y b.turn.swap b.turn.neg_y in
+    λ i. record { turn = record { swap = swap i; neg_x = neg_x i; neg_y = neg_y i }; dx = dx i; dy = dy i }
+
+pub IsPlaceOf-unique : (steps : List Step) (a b : Place) → IsPlaceOf steps a → IsPlaceOf steps b → a ≡ b
+IsPlaceOf-unique steps a b p q = place_unique a b (λ r. p.moves r ∙ sym (q.moves r))
+
+-- steps one after the other, each with its place
+pub IsPlaceOf-append : (before after : List Step) (a b made : Place) → IsPlaceOf before a → IsPlaceOf after b → ((p : Point) → placed made p ≡ placed b (placed a p)) → IsPlaceOf (before ++ after) made
+IsPlaceOf-append before after a b made p q then =
+    record { moves = λ r. then r ∙ ap (placed b) (p.moves r) ∙ q.moves (moved before r) ∙ sym (moved-append before after r) }

@@ -18,5 +18,8 @@ mod shapes;
 
 pub use names::{Label, Short};
 pub use pairs::placements_on_both;
-pub use places::{Place, Turn};
+pub use places::{Place, Turn, one_place};
 pub use shapes::{Point, Rect, Shape};
+
+#[cfg(test)]
+mod tests;

@@ -2,6 +2,7 @@ ghost use Rattle.std.specs.Prelude.{◌≡◌, ℕ, ◌+◌, ◌^◌, ◌↔◌,
 ghost use Rattle.plane_geom.specs.Bounds.{IsWithin, IsPointWithin};
 ghost use Rattle.plane_geom.specs.Placement.{moved, turn_steps, placed, IsShiftWithin};
 ghost use Rattle.plane_geom.specs.declared.shapes.Point.{Point};
+ghost use Rattle.plane_geom.specs.declared.places.Place.{Place};
 
 use crate::shapes::Point;
 
@@ -93,3 +94,9 @@ fn negated_if(negate: bool, z: i64) -> i64
 {
     if negate { -z } else { z }
 }
+
+/// A place is told by how it moves points: no other place moves all points alike.
+#[tactic(auto, using(crate::proofs::Turning::place_unique))]
+pub fn one_place()
+    ensures { (a b : Place) → ((p : Point) → placed a p ≡ placed b p) → a ≡ b }
+{}

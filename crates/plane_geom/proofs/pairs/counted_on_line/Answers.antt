@@ -1,8 +1,6 @@
-use Rattle.std.proofs.Common.{rules, ◌≡◌, ◌^◌, ◌<◌, ◌≤◌, ◌&&◌, ℕ, ◌+◌, ◌-◌, ◌*◌, sym, arith, Fits, w8, w32, w64, ℤ, pos, ◌+ℤ◌, ◌-ℤ◌, ◌*ℤ◌, ◌≤ℤ◌, ◌<ℤ◌, FitsSigned, to_z, of_z}
+use Rattle.std.proofs.Common.{sym, arith, w64, pos, ◌-ℤ◌, to_z, of_z}
 use Rattle.std.proofs.lemmas.Int.{ints, clamps}
-use Rattle.plane_geom.specs.Bounds.{IsWithin, IsRectWithin}
-use Rattle.plane_geom.specs.Cells.{is_between, is_in_rect, is_met, count_cells, is_met_on_line, count_numbers}
-use Rattle.plane_geom.proofs.Counting.{met_none_left, met_none_right, met_span, span_short, IsMetFrom}
+use Rattle.plane_geom.proofs.Counting.{met_none_left, met_none_right, met_span, span_short}
 use Rattle.plane_geom.proofs.Ranges.{fits_far}
 use Rattle.plane_geom.proofs.pairs.counted_on_line.Goals as goal
 use Rattle.plane_geom.proofs.pairs.counted_on_line.Goals.{then-a-via-then-a, then-a-via-else-a+then-b}

@@ -1,4 +1,4 @@
-use Rattle.std.proofs.Common.{rules, ◌≡◌, sym, ◌∙◌, arith, FitsSigned, w64}
+use Rattle.std.proofs.Common.{rules, sym, FitsSigned, w64}
 use Rattle.std.proofs.lemmas.Int.{to_z-of_z}
 use Rattle.plane_geom.proofs.Counting.{met_by_rects}
 use Rattle.plane_geom.proofs.pairs.placements_on_both.Goals as goal

@@ -11,4 +11,4 @@ loop-p-preserved c =
 pub returns : goal.returns
 returns c =
     hull_reach_is c.args.points.now c.loop-p.p-index c.args.half c.loop-p.reach _ c.loop-p-test.false c.loop-p.invariant
-        (rect_is _ _ (omega (arith, ints)) (omega (arith, ints)) (omega (arith, ints)) (omega (arith, ints)))
+    (rect_is _ _ (omega (arith, ints)) (omega (arith, ints)) (omega (arith, ints)) (omega (arith, ints)))

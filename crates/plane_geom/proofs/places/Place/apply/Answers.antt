@@ -1,8 +1,6 @@
-use Rattle.std.proofs.Common.{rules, ◌≡◌, ℕ, ◌+◌, ◌^◌, arith, ℤ, pos, ◌+ℤ◌, ◌-ℤ◌, ◌≤ℤ◌, ◌<ℤ◌, FitsSigned, to_z, of_z, w64}
-use Rattle.std.proofs.lemmas.Int.{ints, to_z-of_z}
-use Rattle.plane_geom.specs.Bounds.{IsWithin, IsPointWithin}
-use Rattle.plane_geom.specs.Placement.{moved, turn_steps, placed, IsShiftWithin}
-use Rattle.plane_geom.specs.declared.shapes.Point.{Point}
+use Rattle.std.proofs.Common.{◌^◌, arith}
+use Rattle.std.proofs.lemmas.Int.{ints}
+use Rattle.plane_geom.specs.Placement.{placed}
 use Rattle.plane_geom.proofs.Turning.{turned_near_is, applied, some_within, some_is}
 use Rattle.plane_geom.proofs.Ranges.{fits_far}
 use Rattle.plane_geom.proofs.places.Place.apply.Goals as goal

@@ -1,8 +1,5 @@
-use Rattle.std.proofs.Common.{rules, ◌≡◌, ℕ, ◌+◌, ◌^◌, arith, ℤ, pos, ◌+ℤ◌, ◌-ℤ◌, ◌≤ℤ◌, ◌<ℤ◌, FitsSigned, to_z, of_z, w64}
+use Rattle.std.proofs.Common.{rules, ◌^◌, arith, FitsSigned, w64}
 use Rattle.std.proofs.lemmas.Int.{ints, to_z-of_z}
-use Rattle.plane_geom.specs.Bounds.{IsWithin, IsPointWithin}
-use Rattle.plane_geom.specs.Placement.{moved, turn_steps, placed, IsShiftWithin}
-use Rattle.plane_geom.specs.declared.shapes.Point.{Point}
 use Rattle.plane_geom.proofs.Turning.{placed-then, shifts-near, turned_near_is}
 use Rattle.plane_geom.proofs.Ranges.{fits_far}
 use Rattle.plane_geom.proofs.places.Place.then.Goals as goal

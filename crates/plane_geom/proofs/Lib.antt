@@ -1,5 +1,6 @@
 pub mod Counting
+pub mod Ends
 pub mod Ranges
 pub mod Reaching
-pub mod Rows
+pub mod Worked
 pub mod Turning

@@ -1,5 +1,5 @@
 -- Shapes, and the cells that they cover.
-use Rattle.std.specs.Prelude.{◌≡◌, ℕ, ◌%◌, ◌==◌, ◌<◌, ℤ, pos, ◌+ℤ◌, ◌-ℤ◌, ◌≤ℤ◌, Bool, true, not, ◌&&◌, ◌||◌, int_lt, List, [], ◌∷◌, ◌++◌, length, map, count_by}
+use Rattle.std.specs.Prelude.{◌≡◌, ℕ, ◌<◌, ℤ, pos, ◌+ℤ◌, ◌-ℤ◌, ◌≤ℤ◌, Bool, true, not, ◌&&◌, ◌||◌, int_lt, List, [], ◌∷◌, ◌++◌, length, map, count_by}
 use Rattle.std.specs.List.{list_any, list_all, All}
 use Rattle.std.specs.Int.{int_min, int_max}
 use Rattle.std.specs.Ordering.{int_eq}
@@ -9,6 +9,7 @@ use Rattle.plane_geom.specs.declared.shapes.Shape.{Shape}
 use Rattle.plane_geom.specs.declared.shapes.Shape.TheVariants.{Block, Polygon, Wire}
 use Rattle.plane_geom.specs.Bounds.{IsWithin, IsPointWithin, IsRectWithin}
 use Rattle.plane_geom.specs.Cells.{is_between, is_in_rect}
+use Rattle.plane_geom.specs.Ends.{is_odd}
 use Rattle.plane_geom.specs.Placement.{Step, moved}
 
 -- A shape as points and numbers alone: a block, a closed outline, or half a width and a centre line.
@@ -56,9 +57,6 @@ spans y e = is_between (int_min e.0.y e.1.y) (int_max e.0.y e.1.y) y
 -- Whether the edge is vertical, spans the cell's row and lies left of the cell.
 abbrev pub is_crossed : ℤ → ℤ → Point × Point → Bool
 is_crossed x y e = is_vertical e && spans y e && not (int_lt x e.0.x)
-
-abbrev pub is_odd : ℕ → Bool
-is_odd n = n % 2 == 1
 
 -- A polygon covers a cell where the number of its vertical edges that lie left of the cell and span its row is odd.
 abbrev pub polygon_covers : List Point → ℤ → ℤ → Bool

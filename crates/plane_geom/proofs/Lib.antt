@@ -1,0 +1,6 @@
+pub mod Counting
+pub mod Ends
+pub mod Ranges
+pub mod Reaching
+pub mod Worked
+pub mod Turning

@@ -1,0 +1,6 @@
+pub mod Bounds
+pub mod Cells
+pub mod Covering
+pub mod Ends
+pub mod Names
+pub mod Placement

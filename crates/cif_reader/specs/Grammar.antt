@@ -24,9 +24,13 @@ words (box l w x y) = codes "B" ∷ decimal l ∷ decimal w ∷ signed_decimal x
 words (label name x y false) = codes "94" ∷ name ∷ signed_decimal x ∷ signed_decimal y ∷ []
 words (label name x y true) = codes "94" ∷ name ∷ signed_decimal x ∷ signed_decimal y ∷ metal ∷ []
 
--- A command's words stand with single spaces between them, and a `;` and a space behind them.
+-- the words with single spaces between them
+abbrev pub body : Command → List ℕ
+body c = join_with_byte 32 (words c)
+
+-- A `;` and a space stand behind each command.
 abbrev pub command_text : Command → List ℕ
-command_text c = join_with_byte 32 (words c) ++ codes "; "
+command_text c = body c ++ codes "; "
 
 -- all commands, and then `E`
 abbrev pub text_of : List Command → List ℕ

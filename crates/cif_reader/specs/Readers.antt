@@ -54,12 +54,13 @@ box_at text = do
   centre ← point_at width.1
   Some (box l w centre.0 centre.1)
 
--- A y, and whether the layer stands behind it.
+-- A y, and whether the layer stands behind it, where the text is or isn't cut at a space.
+abbrev pub ending_in : List ℕ → Option (List ℕ × List ℕ) → Option (ℤ × Bool)
+ending_in text None = coordinate_at text >>= λ y. Some (y, false)
+ending_in text (Some cut) = if bytes_eq cut.1 metal then (coordinate_at cut.0 >>= λ y. Some (y, true)) else None
+
 unfoldable pub ending_at : List ℕ → Option (ℤ × Bool)
-ending_at text = elim (cut_at 32 text) [
-  | None ↦ (coordinate_at text >>= λ y. Some (y, false))
-  | Some cut ↦ if bytes_eq cut.1 metal then (coordinate_at cut.0 >>= λ y. Some (y, true)) else None
-]
+ending_at text = ending_in text (cut_at 32 text)
 
 unfoldable pub label_at : List ℕ → Option Command
 label_at text = do

@@ -1,10 +1,10 @@
 //! The whole text.
 
-ghost use Rattle.std.specs.Prelude.{◌≡◌, ◌++◌, IfOk, IfErr, OnOk};
+ghost use Rattle.std.specs.Prelude.{◌≡◌, pos, ◌+ℤ◌, ◌-ℤ◌, ◌*ℤ◌, ◌++◌, IfOk, IfErr, OnOk};
 ghost use Rattle.std.specs.Option.{option_to_list};
 ghost use Rattle.std.specs.List.{AllByRecursion};
 ghost use Rattle.cif_reader.specs.Grammar.{metal as metal_lem, IsThin};
-ghost use Rattle.cif_reader.specs.Reading.{said, items_at, Reads, IsThinItem};
+ghost use Rattle.cif_reader.specs.Reading.{rect_of, point_of, layer_of, said, items_at, Reads, IsThinItem};
 ghost use Rattle.cif_reader.specs.Seen.{seen};
 
 use crate::command::{Command, METAL, next_command};
@@ -43,45 +43,61 @@ fn metal() -> Short
     Short::new(METAL).unwrap()
 }
 
+/// A distance in mask units.
+fn mask_units(distance: i16) -> i64
+    ensures { result ≡ pos 2 *ℤ distance }
+{
+    2 * i64::from(distance)
+}
+
+/// From where to where a box of this length lies, in mask units.
+fn span(centre: i16, length: u16) -> (i64, i64)
+    ensures from { result.0 ≡ (pos 2 *ℤ centre) -ℤ pos length }
+    ensures to { result.1 ≡ (pos 2 *ℤ centre) +ℤ pos length }
+{
+    let centre = 2 * i64::from(centre);
+    let half = i64::from(length);
+    (centre - half, centre + half)
+}
+
+fn rect(length: u16, width: u16, x: i16, y: i16) -> Rect
+    ensures { result ≡ rect_of length width x y }
+{
+    let (x0, x1) = span(x, length);
+    let (y0, y1) = span(y, width);
+    Rect { x0, y0, x1, y1 }
+}
+
+fn point(x: i16, y: i16) -> Point
+    ensures { result ≡ point_of x y }
+{
+    Point {
+        x: mask_units(x),
+        y: mask_units(y),
+    }
+}
+
+fn layer(on_layer: bool) -> Option<Short>
+    ensures { result ≡ layer_of on_layer }
+{
+    if on_layer { Some(metal()) } else { None }
+}
+
 /// What a command draws or marks, if anything.
 fn what_of(alloc: Global, command: Command<'_>) -> Result<Option<What>, AllocError>
     ensures { IfOk result (λ what. option_to_list what ≡ said (seen command.entry)) }
 {
     match command {
         Command::Layer => Ok(None),
-        Command::Box {
-            length,
-            width,
-            x,
-            y,
-        } => {
-            let (length, width) = (i64::from(length), i64::from(width));
-            let (x, y) = (i64::from(x), i64::from(y));
-            let rect = Rect {
-                x0: 2 * x - length,
-                y0: 2 * y - width,
-                x1: 2 * x + length,
-                y1: 2 * y + width,
-            };
-            Ok(Some(What::Draw {
-                layer: metal(),
-                shape: Shape::Block(rect),
-            }))
-        }
-        Command::Label {
-            name,
-            x,
-            y,
-            on_layer,
-        } => {
-            let name = Label::new(alloc, name)?;
-            let at = Point {
-                x: 2 * i64::from(x),
-                y: 2 * i64::from(y),
-            };
-            let layer = if on_layer { Some(metal()) } else { None };
-            Ok(Some(What::Mark { name, at, layer }))
-        }
+        Command::Box { length, width, x, y } => Ok(Some(What::Draw {
+            layer: metal(),
+            shape: Shape::Block(rect(length, width, x, y)),
+        })),
+        Command::Label { name, x, y, on_layer } => Ok(Some(What::Mark {
+            name: Label::new(alloc, name)?,
+            at: point(x, y),
+            layer: layer(on_layer),
+        })),
     }
 }
 
@@ -124,7 +140,7 @@ pub fn read(alloc: Global, bytes: &[u8]) -> Result<CifFile, CifRefusal>
         if !command.may_stand(has_layer) {
             return Err(CifRefusal::NotBuilt);
         }
-        has_layer = has_layer || command.is_layer();
+        has_layer |= command.is_layer();
         add(&mut top, alloc, pos as u64, command)?;
         rest = behind;
     }

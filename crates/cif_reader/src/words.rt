@@ -1,6 +1,6 @@
 //! The words of a command: numbers, coordinates and names.
 
-ghost use Rattle.std.specs.Prelude.{◌≡◌, ◌==◌, ◌≤◌, length, option_map, position};
+ghost use Rattle.std.specs.Prelude.{◌≡◌, ◌==◌, ◌≤◌, length, option_map, position, IfSome};
 ghost use Rattle.std.specs.List.{list_all};
 ghost use Rattle.std.specs.Char.{is_ascii_digit};
 ghost use Rattle.std.specs.Str.Parse.{AllDigits, digits_value};
@@ -65,7 +65,8 @@ fn is_plain_number(word: &[u8]) -> bool
 fn value_of(digits: &[u8]) -> u16
     requires digits { AllDigits 10 digits.now }
     requires few { length digits.now ≤ 4 }
-    ensures { result ≡ digits_value 10 digits.now }
+    ensures value { result ≡ digits_value 10 digits.now }
+    ensures small { result ≤ 9999 }
 {
     let mut value = 0;
     for digit in digits {
@@ -77,7 +78,8 @@ fn value_of(digits: &[u8]) -> u16
 /// A number that is written as a plain decimal.
 #[tactic(auto, unfolding(crate::specs::Readers::number_at))]
 pub(crate) fn number_of(word: &[u8]) -> Option<u16>
-    ensures { result ≡ number_at word.now }
+    ensures value { result ≡ number_at word.now }
+    ensures small { IfSome result (λ n. n ≤ 9999) }
 {
     if is_plain_number(word) {
         Some(value_of(word))
@@ -89,7 +91,8 @@ pub(crate) fn number_of(word: &[u8]) -> Option<u16>
 /// A number above 0.
 #[tactic(auto, unfolding(crate::specs::Readers::size_at))]
 pub(crate) fn size_of(word: &[u8]) -> Option<u16>
-    ensures { result ≡ size_at word.now }
+    ensures value { result ≡ size_at word.now }
+    ensures small { IfSome result (λ n. n ≤ 9999) }
 {
     let number = number_of(word)?;
     if number == 0 { None } else { Some(number) }

@@ -1,9 +1,5 @@
-use Rattle.std.proofs.Common.{◌≡◌, ◌^◌, ◌<◌, take}
-use Rattle.std.specs.Str.Parse.{digits_value}
+use Rattle.cif_reader.proofs.Numbers.{ValueSoFar}
 use Rattle.cif_reader.proofs.words.value_of.Given as goal
 
 abbrev pub invariant-loop-digit : goal.invariant-loop-digit
-invariant-loop-digit l = record {
-  so_far : l.value ≡ digits_value 10 (take l.digit-index l.digits);
-  small : l.value < 10 ^ l.digit-index;
-}
+invariant-loop-digit l = ValueSoFar l.digits l.digit-index l.value

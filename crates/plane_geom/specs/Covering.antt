@@ -1,6 +1,6 @@
 -- Shapes, and the cells that they cover.
 use Rattle.std.specs.Prelude.{◌≡◌, ℕ, ◌%◌, ◌==◌, ◌<◌, ℤ, pos, ◌+ℤ◌, ◌-ℤ◌, ◌≤ℤ◌, Bool, true, not, ◌&&◌, ◌||◌, int_lt, List, [], ◌∷◌, ◌++◌, length, map, count_by}
-use Rattle.std.specs.List.{list_any, list_all, AllByRecursion}
+use Rattle.std.specs.List.{list_any, list_all, All}
 use Rattle.std.specs.Int.{int_min, int_max}
 use Rattle.std.specs.Ordering.{int_eq}
 use Rattle.plane_geom.specs.declared.shapes.Point.{Point}
@@ -121,8 +121,8 @@ pub record HoldsAround (r : Rect) (half : ℤ) (p : Point) : Type 0 where
 -- The rectangle holds all corners and points of the shape, those of a wire with half the width to each side.
 abbrev pub IsRound : Figure → Rect → Type 0
 IsRound (block b) r = IsRectIn r b
-IsRound (polygon points) r = AllByRecursion (HoldsAround r (pos 0)) points
-IsRound (wire half path) r = AllByRecursion (HoldsAround r half) path
+IsRound (polygon points) r = All (HoldsAround r (pos 0)) points
+IsRound (wire half path) r = All (HoldsAround r half) path
 
 -- The rectangle is the least one round the shape.
 pub record IsReach (figure : Figure) (r : Rect) : Type 0 where
@@ -132,8 +132,8 @@ pub record IsReach (figure : Figure) (r : Rect) : Type 0 where
 -- All coordinates and half widths of the shape are within the bound.
 abbrev pub IsFigureWithin : ℕ → Figure → Type 0
 IsFigureWithin bound (block r) = IsRectWithin bound r
-IsFigureWithin bound (polygon points) = AllByRecursion (IsPointWithin bound) points
-IsFigureWithin bound (wire half path) = IsWithin bound half × AllByRecursion (IsPointWithin bound) path
+IsFigureWithin bound (polygon points) = All (IsPointWithin bound) points
+IsFigureWithin bound (wire half path) = IsWithin bound half × All (IsPointWithin bound) path
 
 -- ---- placed shapes
 

@@ -1,5 +1,6 @@
-ghost use Rattle.std.specs.Prelude.{◌≡◌, IfOk, if◌then◌else◌};
-ghost use Rattle.plane_geom.specs.Names.{is_short};
+ghost use Rattle.std.specs.Prelude.{◌≡◌, true, IfOk, if◌then◌else◌};
+ghost use Rattle.std.specs.List.{list_all};
+ghost use Rattle.plane_geom.specs.Names.{is_short_byte, is_short};
 
 use std::alloc::{AllocError, Global};
 use std::marker::Model;
@@ -14,7 +15,7 @@ pub struct Short {
 
 impl Model for Short {
     ghost use Rattle.std.specs.Prelude.{ℕ, ◌-◌, List, ◌++◌, length, take, replicate};
-    ghost use Rattle.plane_geom.specs.Names.{IsPadded};
+    ghost use Rattle.plane_geom.specs.Names.{IsPadded, padded_back};
 
     ghost Value = { List ℕ };
 
@@ -23,6 +24,8 @@ impl Model for Short {
     ghost invariant = { λ s. IsPadded s.len s.bytes };
 
     ghost inverse = { λ name. record { bytes = name ++ replicate (4 - length name) 0; len = length name } };
+
+    ghost inverse_ok = { λ a h i. record { bytes = padded_back a.len a.bytes h i; len = h.named i } };
 }
 
 impl Short {
@@ -30,18 +33,11 @@ impl Short {
     pub fn new(text: &[u8]) -> Option<Short>
         ensures { result ≡ (if is_short text.now then Some text.now else None) }
     {
-        let fits = (1..=4).contains(&text.len());
-        if !fits
-            || !text
-                .iter()
-                .all(|b| b.is_ascii_digit() || b.is_ascii_uppercase())
-        {
+        if !is_short_name(text) {
             return None;
         }
         let mut bytes = [0; 4];
-        for (i, b) in text.iter().enumerate() {
-            bytes[i] = *b;
-        }
+        bytes[..text.len()].copy_from_slice(text);
         Some(Short {
             bytes,
             len: text.len() as u8,
@@ -55,6 +51,21 @@ impl Short {
     {
         &self.bytes[..self.len as usize]
     }
+}
+
+/// Whether the text is one to four digits or upper-case letters.
+fn is_short_name(text: &[u8]) -> bool
+    ensures { result ≡ is_short text.now }
+{
+    (1..=4).contains(&text.len()) && is_plain(text)
+}
+
+/// Whether all bytes are digits or upper-case letters.
+fn is_plain(text: &[u8]) -> bool
+    ensures { result ≡ list_all is_short_byte text.now }
+{
+    text.iter()
+        .all(|b| b.is_ascii_digit() || b.is_ascii_uppercase())
 }
 
 /// A text, as a label or a supply is named. Contracts see its bytes.

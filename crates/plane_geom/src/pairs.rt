@@ -1,6 +1,6 @@
 ghost use Rattle.std.specs.Prelude.{◌≡◌, ◌^◌, ◌<◌, ◌≤◌, ◌&&◌};
 ghost use Rattle.plane_geom.specs.Bounds.{IsWithin, IsRectWithin};
-ghost use Rattle.plane_geom.specs.Cells.{is_between, is_in_rect, is_met, count_cells, is_met_on_line, count_numbers};
+ghost use Rattle.plane_geom.specs.Cells.{IsSpan, is_between, is_in_rect, is_met, count_cells, is_met_on_line, count_numbers};
 
 use crate::shapes::Rect;
 
@@ -36,7 +36,14 @@ fn counted_on_line(side: u32, a: (i64, i64), b: (i64, i64)) -> u64
     if a.0 >= a.1 || b.0 >= b.1 {
         return 0;
     }
-    let low = a.0.max(b.0) - (i64::from(side) - 1);
-    let high = a.1.min(b.1);
+    span(a.0.max(b.0) - (side as i64 - 1), a.1.min(b.1))
+}
+
+/// How many whole numbers are from `low` on and below `high`.
+fn span(low: i64, high: i64) -> u64
+    requires low_near { IsWithin (2 ^ 25) low }
+    requires high_near { IsWithin (2 ^ 25) high }
+    ensures { IsSpan low high result }
+{
     if low < high { (high - low) as u64 } else { 0 }
 }

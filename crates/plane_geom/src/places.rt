@@ -1,5 +1,5 @@
-ghost use Rattle.std.specs.Prelude.{◌≡◌, ℕ, ◌+◌, ◌^◌, ◌↔◌, IsSome, IfSome};
-ghost use Rattle.plane_geom.specs.Bounds.{IsPointWithin};
+ghost use Rattle.std.specs.Prelude.{◌≡◌, ℕ, ◌+◌, ◌^◌, ◌↔◌, IsSome, IfSome, if◌then◌else◌, neg_ℤ};
+ghost use Rattle.plane_geom.specs.Bounds.{IsWithin, IsPointWithin};
 ghost use Rattle.plane_geom.specs.Placement.{moved, turn_steps, placed, IsShiftWithin};
 ghost use Rattle.plane_geom.specs.declared.shapes.Point.{Point};
 
@@ -29,8 +29,8 @@ impl Turn {
     {
         let (x, y) = if self.swap { (p.y, p.x) } else { (p.x, p.y) };
         Point {
-            x: if self.neg_x { -x } else { x },
-            y: if self.neg_y { -y } else { y },
+            x: negated_if(self.neg_x, x),
+            y: negated_if(self.neg_y, y),
         }
     }
 
@@ -84,4 +84,12 @@ impl Place {
         };
         moved.is_in_range().then_some(moved)
     }
+}
+
+/// `-z` where it is to be negated, else `z`.
+fn negated_if(negate: bool, z: i64) -> i64
+    requires { IsWithin (2 ^ 60) z }
+    ensures { result ≡ (if negate then neg_ℤ z else z) }
+{
+    if negate { -z } else { z }
 }

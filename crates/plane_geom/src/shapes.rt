@@ -1,5 +1,5 @@
 ghost use Rattle.std.specs.Prelude.{◌≡◌, ◌^◌, ◌<◌, ◌↔◌, IsTrue, length};
-ghost use Rattle.std.specs.List.{AllByRecursion};
+ghost use Rattle.std.specs.List.{All};
 ghost use Rattle.plane_geom.specs.Bounds.{IsWithin, IsPointWithin};
 ghost use Rattle.plane_geom.specs.Covering.{figure_of, wire, stretched_to, IsWellFormed, IsFigureWithin, IsReach};
 
@@ -74,7 +74,7 @@ impl Shape {
 /// The least rectangle round the points, with `half` to each side.
 fn reach_of_path(points: &[Point], half: i64) -> Rect
     requires some { 0 < length points.now }
-    requires near { AllByRecursion (IsPointWithin (2 ^ 60)) points.now }
+    requires near { All (IsPointWithin (2 ^ 60)) points.now }
     requires thick { IsWithin (2 ^ 60) half }
     ensures { IsReach (wire half points.now) result }
 {

@@ -1,0 +1,4 @@
+pub mod Counting
+pub mod Ranges
+pub mod Reaching
+pub mod Turning

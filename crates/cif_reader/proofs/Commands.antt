@@ -80,9 +80,13 @@ box_takes text c h =
 pub box_again : (l w : ℕ) (x y : ℤ) → Fits (box l w x y) → box_at (decimal l ++ (32 ∷ (decimal w ++ (32 ∷ (signed_decimal x ++ (32 ∷ signed_decimal y)))))) ≡ Some (box l w x y)
 unfolding box_at
 box_again l w x y (l_some, l_small, w_some, w_small, x_near, y_near) =
-    rw (cut_again 32 (decimal l) (decimal w ++ (32 ∷ (signed_decimal x ++ (32 ∷ signed_decimal y)))) (decimal_lacks 32 l (inl (omega arith)) l_small),
+    rw (
+      cut_again 32 (decimal l) (decimal w ++ (32 ∷ (signed_decimal x ++ (32 ∷ signed_decimal y)))) (decimal_lacks 32 l (inl (omega arith)) l_small),
       cut_again 32 (decimal w) (signed_decimal x ++ (32 ∷ signed_decimal y)) (decimal_lacks 32 w (inl (omega arith)) w_small),
-      size_again l l_some l_small, size_again w w_some w_small, point_again x y x_near y_near) refl
+      size_again l l_some l_small,
+      size_again w w_some w_small,
+      point_again x y x_near y_near,
+    ) refl
 
 -- ---- labels
 
@@ -162,9 +166,13 @@ name_lacks m (b ∷ bs) h n = name_bytes_lack m (b ∷ bs) h ((and_parts _ (list
 label_steps : (name rest : List ℕ) (x y : ℤ) (on : Bool) → is_name name ≡ true → IsWithin 9999 x → ending_at rest ≡ Some (y, on) → label_at (name ++ (32 ∷ (signed_decimal x ++ (32 ∷ rest)))) ≡ Some (label name x y on)
 unfolding label_at
 label_steps name rest x y on named near last =
-    rw (cut_again 32 name (signed_decimal x ++ (32 ∷ rest)) (name_lacks 32 name (inl (omega arith)) named),
+    rw (
+      cut_again 32 name (signed_decimal x ++ (32 ∷ rest)) (name_lacks 32 name (inl (omega arith)) named),
       cut_again 32 (signed_decimal x) rest (signed_lacks 32 x (inl (omega arith)) near),
-      coordinate_again x near, last, named) refl
+      coordinate_again x near,
+      last,
+      named,
+    ) refl
 
 -- ---- any command
 

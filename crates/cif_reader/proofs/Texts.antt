@@ -7,9 +7,14 @@ use Rattle.std.specs.Str.{bytes_eq}
 use Rattle.std.proofs.lemmas.Slice.Eq.{bytes_eq-Decides}
 use Rattle.std.proofs.lemmas.List.Folds.{list_all-append}
 use Rattle.std.proofs.lemmas.Int.{ints}
+use Rattle.plane_geom.specs.declared.shapes.Shape.TheVariants.{Block, Polygon, Wire}
+use Rattle.plane_geom.specs.Bounds.{IsWithin}
 use Rattle.cif_reader.specs.declared.file.Item.{Item}
+use Rattle.cif_reader.specs.declared.file.What.{What}
+use Rattle.cif_reader.specs.declared.file.What.TheVariants.{Draw, Mark}
+use Rattle.cif_reader.specs.File.{limit, IsWhat, IsItem}
 use Rattle.cif_reader.specs.Grammar.{Command, layer, box, label, metal, is_name, body, command_text, text_of, Fits, is_layer, may_stand, IsLayered, Spells, IsThin}
-use Rattle.cif_reader.specs.Reading.{layer_of, said, items_at, items_from, Reads, IsThinItem}
+use Rattle.cif_reader.specs.Reading.{layer_of, said, items_at, items_from, Reads, IsThinWhat, IsThinItem}
 use Rattle.cif_reader.specs.Readers.{◌>>=◌, cut_at, command_at, behind_space, next_at}
 use Rattle.cif_reader.proofs.Options.{bind_some, pair_is}
 use Rattle.cif_reader.proofs.Cuts.{lacks, cut_takes, cut_again}
@@ -222,25 +227,31 @@ either false = inl refl
 
 said_thin : (at : ℕ) (c : Command) → Fits c → AllByRecursion IsThinItem (items_at at (said c))
 said_thin at layer fits = tt
-said_thin at (box l w x y) (l_some, l_small, w_some, w_small, x_near, y_near) = (record {
-  layer_is = refl;
-  within = record {
-    x0 = record { low = omega (arith, ints, x_near.low); high = omega (arith, ints, x_near.high) };
-    y0 = record { low = omega (arith, ints, y_near.low); high = omega (arith, ints, y_near.high) };
-    x1 = record { low = omega (arith, ints, x_near.low); high = omega (arith, ints, x_near.high) };
-    y1 = record { low = omega (arith, ints, y_near.low); high = omega (arith, ints, y_near.high) };
-  };
-  wide = omega (arith, ints);
-  high = omega (arith, ints);
-}, tt)
-said_thin at (label name x y on) (named, x_near, y_near) = (record {
-  named = named;
-  within = record {
-    x = record { low = omega (arith, ints, x_near.low); high = omega (arith, ints, x_near.high) };
-    y = record { low = omega (arith, ints, y_near.low); high = omega (arith, ints, y_near.high) };
-  };
-  layer_is = either on;
-}, tt)
+said_thin at (box l w x y) (l_some, l_small, w_some, w_small, x_near, y_near) = (
+  record {
+    layer_is = refl;
+    within = record {
+      x0 = record { low = omega (arith, ints, x_near.low); high = omega (arith, ints, x_near.high) };
+      y0 = record { low = omega (arith, ints, y_near.low); high = omega (arith, ints, y_near.high) };
+      x1 = record { low = omega (arith, ints, x_near.low); high = omega (arith, ints, x_near.high) };
+      y1 = record { low = omega (arith, ints, y_near.low); high = omega (arith, ints, y_near.high) };
+    };
+    wide = omega (arith, ints);
+    high = omega (arith, ints);
+  },
+  tt,
+)
+said_thin at (label name x y on) (named, x_near, y_near) = (
+  record {
+    named = named;
+    within = record {
+      x = record { low = omega (arith, ints, x_near.low); high = omega (arith, ints, x_near.high) };
+      y = record { low = omega (arith, ints, y_near.low); high = omega (arith, ints, y_near.high) };
+    };
+    layer_is = either on;
+  },
+  tt,
+)
 
 pub all_thin : (at : ℕ) (cs : List Command) → AllByRecursion Fits cs → AllByRecursion IsThinItem (items_from at cs)
 all_thin at [] fit = tt
@@ -261,3 +272,20 @@ pub shrinks : (rest behind : List ℕ) (c : Command) → next_at rest ≡ Some (
 shrinks rest behind c h =
     let takes = next_takes rest c behind h in
     omega (arith, ap length takes.1 ∙ length-append (command_text c) behind, length-append (body c) (codes "; "))
+
+wider : {z : ℤ} → IsWithin 40000 z → IsWithin limit z
+wider h = record { low = omega (arith, ints, h.low); high = omega (arith, ints, h.high) }
+
+-- Whatever is in a thin file, any file may have.
+kept : (what : What) → IsThinWhat what → IsWhat what
+kept (Draw on (Block r)) h = record {
+  formed = record { across = omega (arith, ints, h.wide); up = omega (arith, ints, h.high) };
+  within = record { x0 = wider h.within.x0; y0 = wider h.within.y0; x1 = wider h.within.x1; y1 = wider h.within.y1 };
+}
+kept (Draw on (Polygon points)) h = absurd h
+kept (Draw on (Wire half path)) h = absurd h
+kept (Mark name at on) h = record { x = wider h.within.x; y = wider h.within.y }
+
+pub all_kept : (items : List Item) → AllByRecursion IsThinItem items → AllByRecursion IsItem items
+all_kept [] h = tt
+all_kept (item ∷ items) h = (kept item.what h.0, all_kept items h.1)

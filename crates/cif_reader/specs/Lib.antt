@@ -1,3 +1,4 @@
+pub mod File
 pub mod Grammar
 pub mod Readers
 pub mod Reading

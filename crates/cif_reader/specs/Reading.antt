@@ -1,4 +1,5 @@
--- The file that commands spell, in mask units: a mask unit is half a hundredth of a micron.
+-- The file that commands spell, in mask units. A mask unit is half a hundredth of a micron, so a distance d is
+-- 2 d mask units, and half of it is d.
 use Rattle.std.specs.Prelude.{◌≡◌, ℕ, ◌+◌, ℤ, pos, ◌+ℤ◌, ◌-ℤ◌, ◌*ℤ◌, ◌<ℤ◌, ◌⊎◌, Bool, true, false, IsTrue, List, [], ◌∷◌, ◌++◌, length, Option, Some, None}
 use Rattle.plane_geom.specs.declared.shapes.Point.{Point}
 use Rattle.plane_geom.specs.declared.shapes.Rect.{Rect}
@@ -10,13 +11,15 @@ use Rattle.cif_reader.specs.declared.file.What.{What}
 use Rattle.cif_reader.specs.declared.file.What.TheVariants.{Draw, Mark}
 use Rattle.cif_reader.specs.Grammar.{Command, layer, box, label, metal, is_name, command_text, Spells}
 
--- A box reaches half its length and half its width to each side of its centre.
+-- a box of length l and width w, which reaches half of them to each side of its centre
 abbrev pub rect_of : ℕ → ℕ → ℤ → ℤ → Rect
 rect_of l w x y = record { x0 = (pos 2 *ℤ x) -ℤ pos l; y0 = (pos 2 *ℤ y) -ℤ pos w; x1 = (pos 2 *ℤ x) +ℤ pos l; y1 = (pos 2 *ℤ y) +ℤ pos w }
 
+-- a point
 abbrev pub point_of : ℤ → ℤ → Point
 point_of x y = record { x = pos 2 *ℤ x; y = pos 2 *ℤ y }
 
+-- the layer of a label, if it names it
 abbrev pub layer_of : Bool → Option (List ℕ)
 layer_of true = Some metal
 layer_of false = None
@@ -49,18 +52,20 @@ pub record Reads (bytes : List ℕ) (file : List Item) : Type 0 where
 
 -- ---- what is so of each file of the thin form
 
+-- A box is on metal, isn't empty and lies near.
 pub record IsThinBox (on : List ℕ) (r : Rect) : Type 0 where
   pub layer_is : on ≡ metal
   pub within : IsRectWithin 40000 r
   pub wide : r.x0 <ℤ r.x1
   pub high : r.y0 <ℤ r.y1
 
+-- A label has a good name, lies near, and is on metal or names no layer.
 pub record IsThinLabel (name : List ℕ) (at : Point) (on : Option (List ℕ)) : Type 0 where
   pub named : IsTrue (is_name name)
   pub within : IsPointWithin 40000 at
   pub layer_is : (on ≡ None) ⊎ (on ≡ Some metal)
 
--- A box on metal that is not empty, or a label.
+-- It is such a box or such a label.
 abbrev pub IsThinWhat : What → Type 0
 IsThinWhat (Draw on (Block r)) = IsThinBox on r
 IsThinWhat (Draw on _) = ⊥

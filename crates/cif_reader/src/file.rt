@@ -27,7 +27,8 @@ pub enum What {
     },
 }
 
-/// A CIF file, as it is read: the items of its top, in the order of their commands.
+/// A CIF file, as it is read. Contracts see the items of its top, in the order of their commands. Its shapes are well
+/// formed, and its coordinates are within ±2147483647.
 #[derive(Debug, Drop)]
 pub struct CifFile {
     pub(crate) top: Vec<Item>,
@@ -35,19 +36,27 @@ pub struct CifFile {
 
 impl Model for CifFile {
     ghost use Rattle.std.specs.Prelude.{List};
+    ghost use Rattle.std.specs.List.{AllByRecursion};
     ghost use Rattle.cif_reader.specs.declared.file.Item.{Item};
+    ghost use Rattle.cif_reader.specs.File.{IsItem};
 
     ghost Value = { List Item };
 
     ghost view = { λ file. file.top.items };
+
+    ghost invariant = { λ file. AllByRecursion IsItem file.top.items };
 }
 
 impl CifFile {
     ghost use Rattle.std.specs.Prelude.{◌≡◌};
+    ghost use Rattle.std.specs.List.{AllByRecursion};
+    ghost use Rattle.cif_reader.specs.File.{IsItem};
 
     /// The items outside of symbols, in the order of their commands.
     pub fn top(&self) -> &[Item]
-        ensures { result.now ≡ self.now }
+        ensures same { result.now ≡ self.now }
+        // Each shape is well formed, and all coordinates are within ±2147483647.
+        ensures kept { AllByRecursion IsItem self.now }
     {
         self.top.as_slice()
     }

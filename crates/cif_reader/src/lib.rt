@@ -9,10 +9,15 @@
 
 mod command;
 mod file;
+mod items;
 mod laws;
 mod reading;
+mod refusal;
+#[cfg(test)]
+mod tests;
 mod words;
 
 pub use file::{CifFile, Item, What};
 pub use laws::one_spelling;
-pub use reading::{CifRefusal, read};
+pub use reading::read;
+pub use refusal::CifRefusal;

@@ -1,5 +1,5 @@
 use Rattle.std.proofs.Common.{sym, ◌∙◌, arith}
-use Rattle.cif_reader.proofs.Texts.{goes_on, at_end, stuck, barred, file_thin, not_end, is_end, shrinks}
+use Rattle.cif_reader.proofs.Texts.{goes_on, at_end, stuck, barred, all_kept, file_thin, not_end, is_end, shrinks}
 use Rattle.cif_reader.proofs.reading.read.Goals as goal
 
 pub returns-in_default-clause-refused : goal.returns-in_default-clause-refused
@@ -19,3 +19,6 @@ returns-clause-found c = at_end _ _ _ _ c.loop-rest.invariant (is_end _ c.loop-r
 
 pub returns-clause-thin : goal.returns-clause-thin
 returns-clause-thin c = file_thin _ _ (at_end _ _ _ _ c.loop-rest.invariant (is_end _ c.loop-rest-test.ensures) (omega arith))
+
+pub invariant_of-result : goal.invariant_of-result
+invariant_of-result c = all_kept _ (file_thin _ _ (at_end _ _ _ _ c.loop-rest.invariant (is_end _ c.loop-rest-test.ensures) (omega arith)))

@@ -1,10 +1,10 @@
 -- Commands: what is read is spelled so, and what is spelled so is read.
-use Rattle.std.proofs.Common.{rules, ◌≡◌, ℕ, ℤ, ◌+◌, ◌<◌, ◌≤◌, Bool, true, false, cond, if◌then◌else◌, not, ◌&&◌, IsTrue, nat_le, List, [], ◌∷◌, ◌++◌, length, codes, Option, Some, None, refl, sym, ap, ◌∙◌, subst, arith, ◌==◌, inl, inr, ◌⊎◌}
+use Rattle.std.proofs.Common.{◌≡◌, ℕ, ℤ, ◌≤◌, Bool, true, false, if◌then◌else◌, not, ◌&&◌, nat_le, List, [], ◌∷◌, ◌++◌, codes, Option, Some, None, refl, sym, ap, ◌∙◌, subst, arith, ◌==◌, inl, inr, ◌⊎◌}
 use Rattle.std.specs.List.{list_all}
 use Rattle.std.specs.Str.{bytes_eq}
 use Rattle.std.specs.Fmt.{decimal, signed_decimal}
 use Rattle.std.proofs.lemmas.Slice.Eq.{bytes_eq-Decides}
-use Rattle.std.proofs.lemmas.Bool.{eqb-true, eqb-false, leb-true, not-true, ne_eqb, not_from_false, and_parts, and_from}
+use Rattle.std.proofs.lemmas.Bool.{eqb-false, leb-true, not-true, ne_eqb, not_from_false, and_parts, and_from}
 use Rattle.plane_geom.specs.Bounds.{IsWithin}
 use Rattle.cif_reader.specs.Grammar.{Command, layer, box, label, metal, is_name, is_name_byte, body, Fits}
 use Rattle.cif_reader.specs.Readers.{◌>>=◌, cut_at, size_at, coordinate_at, point_at, layer_at, box_at, ending_in, ending_at, label_at, command_at}

@@ -1,5 +1,5 @@
 -- Numbers, and the decimals that spell them.
-use Rattle.std.proofs.Common.{rules, add-one, ◌≡◌, ◌≤ℤ◌, ℕ, ◌+◌, ◌<◌, ◌≤◌, ◌^◌, Bool, true, false, cond, if◌then◌else◌, not, ◌&&◌, nat_lt, List, [], ◌∷◌, ◌++◌, length, get_or, take, ◌-◌, ◌*◌, Option, Some, None, refl, sym, ap, ◌∙◌, subst, arith, ◌==◌, ℤ, pos, negsuc, suc, ◌⊎◌, inl, inr, zero, neg_ℤ}
+use Rattle.std.proofs.Common.{rules, add-one, ◌≡◌, ℕ, ◌+◌, ◌<◌, ◌≤◌, ◌^◌, Bool, true, false, cond, if◌then◌else◌, nat_lt, List, [], ◌∷◌, length, get_or, take, ◌-◌, ◌*◌, Option, Some, None, refl, sym, ap, ◌∙◌, subst, arith, ◌==◌, ℤ, pos, negsuc, suc, ◌⊎◌, inl, inr, zero, neg_ℤ}
 use Rattle.std.specs.List.{list_all}
 use Rattle.plane_geom.specs.Bounds.{IsWithin}
 use Rattle.cif_reader.proofs.Options.{bind_some, guarded}
@@ -10,9 +10,9 @@ use Rattle.std.proofs.lemmas.Int.Digits.{digits_value_more}
 use Rattle.std.specs.Char.{is_ascii_digit, digit_value}
 use Rattle.std.specs.Str.Parse.{AllDigits, digits_value}
 use Rattle.std.specs.Fmt.{decimal, signed_decimal}
-use Rattle.std.proofs.lemmas.Bool.{eqb-true, eq-eqb, lt-ltb, ltb-true, ltb-false, eqb-false, le-ltb, ne_eqb, not_from_false, and_parts, and_from}
+use Rattle.std.proofs.lemmas.Bool.{eqb-true, eq-eqb, ltb-false, eqb-false, le-ltb, ne_eqb, not_from_false, and_parts, and_from}
 use Rattle.std.proofs.lemmas.Bool.Decides.{nat_tests}
-use Rattle.std.proofs.lemmas.Str.Parse.{IsNumeralModel, numerals_by_value, digits_value_short, IsDigitsTest, digit_at}
+use Rattle.std.proofs.lemmas.Str.Parse.{IsNumeralModel, numerals_by_value, digits_value_short, digit_at}
 use Rattle.std.proofs.lemmas.Fmt.{decimal_digit, decimal_is_IsNumeral, decimal-digits_value, first_decimal, length-decimal-le}
 use Rattle.cif_reader.specs.Readers.{◌>>=◌, is_plain, number_at, size_at, coordinate_at}
 

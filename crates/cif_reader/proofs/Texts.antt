@@ -1,6 +1,6 @@
 -- Whole texts: command by command.
-use Rattle.std.proofs.Common.{rules, ◌≡◌, ℕ, ℤ, ◌+◌, ◌-◌, ◌<◌, ◌≤◌, Bool, true, false, cond, not, ◌&&◌, ◌||◌, IsTrue, ◌==◌, List, [], ◌∷◌, ◌++◌, length, codes, Option, Some, None, refl, sym, ap, ◌∙◌, subst, arith, inl, inr, ◌⊎◌, append_assoc, append-nil, length-append}
-use Rattle.std.specs.List.{list_all, AllByRecursion, flat_map, join_with_byte}
+use Rattle.std.proofs.Common.{◌≡◌, ℕ, ℤ, ◌+◌, ◌-◌, ◌<◌, ◌≤◌, Bool, true, false, cond, not, ◌||◌, IsTrue, ◌==◌, List, [], ◌∷◌, ◌++◌, length, codes, Option, Some, None, refl, sym, ap, ◌∙◌, subst, arith, inl, inr, ◌⊎◌, append_assoc, append-nil, length-append}
+use Rattle.std.specs.List.{AllByRecursion, flat_map}
 use Rattle.std.specs.Fmt.{decimal, signed_decimal}
 use Rattle.std.proofs.lemmas.Bool.{eqb-true, and_from, both_ways, not-true, not-false}
 use Rattle.std.specs.Str.{bytes_eq}
@@ -13,7 +13,7 @@ use Rattle.cif_reader.specs.declared.file.Item.{Item}
 use Rattle.cif_reader.specs.declared.file.What.{What}
 use Rattle.cif_reader.specs.declared.file.What.TheVariants.{Draw, Mark}
 use Rattle.cif_reader.specs.File.{limit, IsWhat, IsItem}
-use Rattle.cif_reader.specs.Grammar.{Command, layer, box, label, metal, is_name, body, command_text, text_of, Fits, is_layer, may_stand, IsLayered, Spells, IsThin}
+use Rattle.cif_reader.specs.Grammar.{Command, layer, box, label, metal, body, command_text, text_of, Fits, is_layer, may_stand, IsLayered, Spells, IsThin}
 use Rattle.cif_reader.specs.Reading.{layer_of, said, items_at, items_from, Reads, IsThinWhat, IsThinItem}
 use Rattle.cif_reader.specs.Readers.{◌>>=◌, cut_at, command_at, behind_space, next_at}
 use Rattle.cif_reader.proofs.Options.{bind_some, pair_is}

@@ -1,6 +1,5 @@
 -- What every CIF file keeps.
-use Rattle.std.specs.Prelude.{ℕ, List}
-use Rattle.plane_geom.specs.declared.shapes.Point.{Point}
+use Rattle.std.specs.Prelude.{ℕ}
 use Rattle.plane_geom.specs.declared.shapes.Shape.{Shape}
 use Rattle.plane_geom.specs.Bounds.{IsPointWithin}
 use Rattle.plane_geom.specs.Covering.{figure_of, IsWellFormed, IsFigureWithin}

@@ -1,4 +1,4 @@
-use Rattle.std.proofs.Common.{sym, ◌∙◌, arith}
+use Rattle.std.proofs.Common.{sym, arith}
 use Rattle.cif_reader.proofs.Texts.{goes_on, at_end, stuck, barred, all_kept, file_thin, not_end, is_end, shrinks}
 use Rattle.cif_reader.proofs.reading.read.Goals as goal
 

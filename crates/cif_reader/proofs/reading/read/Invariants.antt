@@ -1,4 +1,4 @@
-use Rattle.std.proofs.Common.{ℕ, length}
+use Rattle.std.proofs.Common.{length}
 use Rattle.cif_reader.proofs.Texts.{Reached}
 use Rattle.cif_reader.proofs.reading.read.Given as goal
 

@@ -14,7 +14,7 @@ use Rattle.cif_reader.specs.declared.file.What.{What}
 use Rattle.cif_reader.specs.declared.file.What.TheVariants.{Draw, Mark}
 use Rattle.cif_reader.specs.File.{limit, IsWhat, IsItem}
 use Rattle.cif_reader.specs.Grammar.{Command, layer, box, label, metal, body, command_text, text_of, Fits, is_layer, may_stand, IsLayered, Spells, IsThin}
-use Rattle.cif_reader.specs.Reading.{layer_of, said, items_at, items_from, Reads, IsThinWhat, IsThinItem}
+use Rattle.cif_reader.specs.Reading.{layer_of, said, items_at, items_from, file_of, Reads, IsThinWhat, IsThinItem}
 use Rattle.cif_reader.specs.Readers.{◌>>=◌, cut_at, command_at, behind_space, next_at}
 use Rattle.cif_reader.proofs.Options.{bind_some, pair_is}
 use Rattle.cif_reader.proofs.Cuts.{lacks, cut_takes, cut_again}
@@ -127,6 +127,12 @@ same_commands current bytes (c ∷ cs) ds f g =
 
 pub follows_of : (bytes : List ℕ) (cs : List Command) → Spells bytes cs → Follows false bytes cs
 follows_of bytes cs s = record { whole = s.whole; fit = s.fit; layered = s.layered }
+
+pub one_list : (bytes : List ℕ) (cs ds : List Command) → Spells bytes cs → Spells bytes ds → cs ≡ ds
+one_list bytes cs ds s t = same_commands false bytes cs ds (follows_of bytes cs s) (follows_of bytes ds t)
+
+pub one_file : (bytes : List ℕ) (f g : List Item) → Reads bytes f → Reads bytes g → f ≡ g
+one_file bytes f g r s = r.is ∙ ap file_of (one_list bytes r.commands s.commands r.spelled s.spelled) ∙ sym s.is
 
 -- ---- the loop over a text
 

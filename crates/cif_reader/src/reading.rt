@@ -29,7 +29,7 @@ pub fn read(alloc: Global, bytes: &[u8]) -> Result<CifFile, CifRefusal>
     ensures found { IfOk result (Reads bytes.now) }
     // What is spelled so is read, unless memory runs out.
     ensures refused { IfErr result (λ fault. fault ≡ CifRefusal.NotBuilt → IsThin bytes.now → ⊥) }
-    // What each file of the thin form has.
+    // Each item is a box on CMF that is not empty, or a label with a good name, and lies within ±40,000.
     ensures thin { IfOk result (AllByRecursion IsThinItem) }
 {
     if bytes.len() > LONGEST_TEXT {

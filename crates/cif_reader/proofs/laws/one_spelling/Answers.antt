@@ -1,5 +1,8 @@
-use Rattle.cif_reader.proofs.Texts.{same_commands, follows_of}
+use Rattle.cif_reader.proofs.Texts.{one_list, one_file}
 use Rattle.cif_reader.proofs.laws.one_spelling.Goals as goal
 
-pub returns : goal.returns
-returns c = λ bytes cs ds s t. same_commands _ _ _ _ (follows_of bytes cs s) (follows_of bytes ds t)
+pub returns-clause-commands : goal.returns-clause-commands
+returns-clause-commands c = one_list
+
+pub returns-clause-file : goal.returns-clause-file
+returns-clause-file c = one_file

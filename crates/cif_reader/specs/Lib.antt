@@ -1,0 +1,5 @@
+pub mod File
+pub mod Grammar
+pub mod Readers
+pub mod Reading
+pub mod Seen

@@ -1,0 +1,9 @@
+pub mod WordLemmas
+pub mod NetLemmas
+pub mod PairLemmas
+pub mod OrderLemmas
+pub mod LineLemmas
+pub mod CauseFacts
+pub mod DrawingFacts
+pub mod RangeFacts
+pub mod Exactness

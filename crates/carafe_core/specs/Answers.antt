@@ -1,0 +1,234 @@
+-- What each status says of the call that gives it.
+use Rattle.std.specs.Prelude.{◌≡◌, ℕ, ◌⊎◌, List, [], Option, Some, codes}
+use Rattle.probe_io.specs.Files.{File, Lacks}
+use Rattle.probe_io.specs.Causes.{Rose}
+use Rattle.probe_io.specs.Written.{Appends, AppendsFront}
+use Rattle.carafe_core.specs.declared.settings.WordRefusal.TheVariants.{Usage, BadSide}
+use Rattle.carafe_core.specs.declared.status.Which.{Which}
+use Rattle.carafe_core.specs.declared.status.Which.TheVariants.{Map, Cif}
+use Rattle.carafe_core.specs.declared.status.Stream.TheVariants.{Out, Diag}
+use Rattle.carafe_core.specs.declared.status.Refusal.{Refusal}
+use Rattle.carafe_core.specs.declared.status.Refusal.TheVariants.{Words, NotBuilt}
+use Rattle.carafe_core.specs.declared.status.Status.{Status}
+use Rattle.carafe_core.specs.declared.status.Status.TheVariants.{Done, Refused, OpenFault, ReadFault, WriteFault, NoMemory}
+use Rattle.carafe_core.specs.declared.layout.Layout.{Layout}
+use Rattle.carafe_core.specs.Report.{IsReport}
+use Rattle.carafe_core.specs.Settings.{Settings, name_in, ForSettings, IsWordCause}
+use Rattle.carafe_core.specs.Causes.{IsReportOf, Cause, IsNotBuilt, IsReached}
+
+-- the exit status of the program
+abbrev pub exit_of : Status → ℕ
+exit_of Done = 0
+exit_of (Refused (Words refusal)) = 3
+exit_of (Refused (NotBuilt which)) = 2
+exit_of (OpenFault which) = 4
+exit_of (ReadFault which) = 4
+exit_of (WriteFault stream) = 5
+exit_of NoMemory = 6
+
+-- the line on the diagnostics stream
+abbrev pub line_of : Status → List ℕ
+line_of Done = []
+line_of (Refused (Words Usage)) = codes "carafe: Usage\n"
+line_of (Refused (Words BadSide)) = codes "carafe: BadSide\n"
+line_of (Refused (NotBuilt Map)) = codes "carafe: NotBuilt map\n"
+line_of (Refused (NotBuilt Cif)) = codes "carafe: NotBuilt cif\n"
+line_of (OpenFault Map) = codes "carafe: OpenFault map\n"
+line_of (OpenFault Cif) = codes "carafe: OpenFault cif\n"
+line_of (ReadFault Map) = codes "carafe: ReadFault map\n"
+line_of (ReadFault Cif) = codes "carafe: ReadFault cif\n"
+line_of (WriteFault Out) = codes "carafe: WriteFault out\n"
+line_of (WriteFault Diag) = []
+line_of NoMemory = codes "carafe: NoMemory\n"
+
+-- a count of faults, before the call and after it
+pub record Count : Type 0 where
+  pub before : ℕ
+  pub after : ℕ
+
+-- the text that a sink tells, before the call and after it
+pub record Text : Type 0 where
+  pub before : Option (List ℕ)
+  pub after : Option (List ℕ)
+
+abbrev pub count : ℕ → ℕ → Count
+count before after = record { before = before; after = after }
+
+abbrev pub text : Option (List ℕ) → Option (List ℕ) → Text
+text before after = record { before = before; after = after }
+
+-- the count rose in the call
+abbrev pub HasRisen : Count → Type 0
+HasRisen count = Rose count.before count.after
+
+-- nothing was written in the call
+pub record IsUnwritten (text : Text) : Type 0 where
+  pub same : text.after ≡ text.before
+
+abbrev pub IsAppended : Text → List ℕ → Type 0
+IsAppended text bytes = Appends text.before text.after bytes
+
+abbrev pub IsFrontAppended : Text → List ℕ → Type 0
+IsFrontAppended text bytes = AppendsFront text.before text.after bytes
+
+-- what a shelf showed: the files that it tells, and its counts of faults
+pub record Shown : Type 0 where
+  pub files : Option (List File)
+  pub starts : Count
+  pub reads : Count
+
+abbrev pub shown : Option (List File) → ℕ → ℕ → ℕ → ℕ → Shown
+shown files starts starts' reads reads' = record {
+  files = files;
+  starts = count starts starts';
+  reads = count reads reads';
+}
+
+-- a file could not be started: the shelf failed in this call, or tells that it has no such file
+pub record IsOpenFault (shelf : Shown) (which : Which) (settings : Settings) : Type 0 where
+  pub reached : IsReached which shelf.files settings
+  pub failed : Lacks shelf.files (name_in settings which) ⊎ HasRisen shelf.starts
+
+-- a file could not be read: the shelf failed in this call
+pub record IsReadFault (shelf : Shown) (which : Which) (settings : Settings) : Type 0 where
+  pub reached : IsReached which shelf.files settings
+  pub failed : HasRisen shelf.reads
+
+-- why the files that the settings name give no layout
+abbrev pub IsFileFailure : Shown → Status → Settings → Type 0
+IsFileFailure shelf Done settings = ⊥
+IsFileFailure shelf (Refused (Words refusal)) settings = ⊥
+IsFileFailure shelf (Refused (NotBuilt which)) settings = IsNotBuilt which shelf.files settings
+IsFileFailure shelf (OpenFault which) settings = IsOpenFault shelf which settings
+IsFileFailure shelf (ReadFault which) settings = IsReadFault shelf which settings
+IsFileFailure shelf (WriteFault stream) settings = ⊥
+IsFileFailure shelf NoMemory settings = Unit {0}
+
+-- why there is no layout to report on
+abbrev pub IsFailure : List (List ℕ) → Shown → Status → Type 0
+IsFailure words shelf Done = ⊥
+IsFailure words shelf (Refused (Words refusal)) = IsWordCause refusal words
+IsFailure words shelf (Refused (NotBuilt which)) = ForSettings words (λ settings. IsFileFailure shelf (Refused (NotBuilt which)) settings)
+IsFailure words shelf (OpenFault which) = ForSettings words (λ settings. IsFileFailure shelf (OpenFault which) settings)
+IsFailure words shelf (ReadFault which) = ForSettings words (λ settings. IsFileFailure shelf (ReadFault which) settings)
+IsFailure words shelf (WriteFault stream) = ⊥
+IsFailure words shelf NoMemory = Unit {0}
+
+-- the whole report on a layout was written
+pub record IsWritten (layout : Layout) (out : Text) : Type 0 where
+  pub report_text : List ℕ
+  pub report : IsReport layout.side layout.boxes.items layout.marks.items report_text
+  pub written : IsAppended out report_text
+
+-- the report sink failed in this call, and a front of the report on a layout was written
+pub record IsWrittenInPart (layout : Layout) (out : Text) (faults : Count) : Type 0 where
+  pub report_text : List ℕ
+  pub report : IsReport layout.side layout.boxes.items layout.marks.items report_text
+  pub written : IsFrontAppended out report_text
+  pub failed : HasRisen faults
+
+-- how the writing of a report on a layout ends
+abbrev pub IsWriting : Layout → Text → Count → Status → Type 0
+IsWriting layout out faults Done = IsWritten layout out
+IsWriting layout out faults (Refused refusal) = ⊥
+IsWriting layout out faults (OpenFault which) = ⊥
+IsWriting layout out faults (ReadFault which) = ⊥
+IsWriting layout out faults (WriteFault Out) = IsWrittenInPart layout out faults
+IsWriting layout out faults (WriteFault Diag) = ⊥
+IsWriting layout out faults NoMemory = IsUnwritten out
+
+-- the whole report was written
+pub record IsReported (words : List (List ℕ)) (shelf : Shown) (out : Text) : Type 0 where
+  pub report_text : List ℕ
+  pub report : IsReportOf words shelf.files report_text
+  pub written : IsAppended out report_text
+
+-- the report sink failed in this call, and a front of the report was written
+pub record IsCutOff (words : List (List ℕ)) (shelf : Shown) (out : Text) (faults : Count) : Type 0 where
+  pub report_text : List ℕ
+  pub report : IsReportOf words shelf.files report_text
+  pub written : IsFrontAppended out report_text
+  pub failed : HasRisen faults
+
+-- there is no report, for this reason, and nothing was written
+pub record IsRefrained (words : List (List ℕ)) (shelf : Shown) (out : Text) (status : Status) : Type 0 where
+  pub failure : IsFailure words shelf status
+  pub unwritten : IsUnwritten out
+
+-- what each status says of the files and of the report sink
+abbrev pub IsOutcome : List (List ℕ) → Shown → Text → Count → Status → Type 0
+IsOutcome words shelf out faults Done = IsReported words shelf out
+IsOutcome words shelf out faults (WriteFault Out) = IsCutOff words shelf out faults
+IsOutcome words shelf out faults (WriteFault Diag) = ⊥
+IsOutcome words shelf out faults (Refused refusal) = IsRefrained words shelf out (Refused refusal)
+IsOutcome words shelf out faults (OpenFault which) = IsRefrained words shelf out (OpenFault which)
+IsOutcome words shelf out faults (ReadFault which) = IsRefrained words shelf out (ReadFault which)
+IsOutcome words shelf out faults NoMemory = IsRefrained words shelf out NoMemory
+
+-- a front of the line was written to the diagnostics sink, and the whole line where that sink did not fail
+pub record IsTried (diag : Text) (faults : Count) (line : List ℕ) : Type 0 where
+  pub front : IsFrontAppended diag line
+  pub whole : (HasRisen faults → ⊥) → IsAppended diag line
+
+-- what each status says of the diagnostics sink
+abbrev pub IsTold : Text → Count → Status → Type 0
+IsTold diag faults Done = IsUnwritten diag
+IsTold diag faults (Refused refusal) = IsAppended diag (line_of (Refused refusal))
+IsTold diag faults (OpenFault which) = IsTried diag faults (line_of (OpenFault which))
+IsTold diag faults (ReadFault which) = IsTried diag faults (line_of (ReadFault which))
+IsTold diag faults (WriteFault stream) = IsTried diag faults (line_of (WriteFault stream))
+IsTold diag faults NoMemory = IsTried diag faults (line_of NoMemory)
+
+-- the line of a refusal could not be written whole: the diagnostics sink failed in this call
+pub record IsUntold (words : List (List ℕ)) (shelf : Shown) (out diag : Text) (out_faults diag_faults : Count) : Type 0 where
+  pub refusal : Refusal
+  pub outcome : IsOutcome words shelf out out_faults (Refused refusal)
+  pub written : IsFrontAppended diag (line_of (Refused refusal))
+  pub failed : HasRisen diag_faults
+
+-- what a status says of the call
+pub record IsToldOutcome (words : List (List ℕ)) (shelf : Shown) (out diag : Text) (out_faults diag_faults : Count) (status : Status) : Type 0 where
+  pub outcome : IsOutcome words shelf out out_faults status
+  pub told : IsTold diag diag_faults status
+
+abbrev pub IsAnswer : List (List ℕ) → Shown → Text → Text → Count → Count → Status → Type 0
+IsAnswer words shelf out diag out_faults diag_faults (WriteFault Diag) = IsUntold words shelf out diag out_faults diag_faults
+IsAnswer words shelf out diag out_faults diag_faults Done = IsToldOutcome words shelf out diag out_faults diag_faults Done
+IsAnswer words shelf out diag out_faults diag_faults (WriteFault Out) = IsToldOutcome words shelf out diag out_faults diag_faults (WriteFault Out)
+IsAnswer words shelf out diag out_faults diag_faults (Refused refusal) = IsToldOutcome words shelf out diag out_faults diag_faults (Refused refusal)
+IsAnswer words shelf out diag out_faults diag_faults (OpenFault which) = IsToldOutcome words shelf out diag out_faults diag_faults (OpenFault which)
+IsAnswer words shelf out diag out_faults diag_faults (ReadFault which) = IsToldOutcome words shelf out diag out_faults diag_faults (ReadFault which)
+IsAnswer words shelf out diag out_faults diag_faults NoMemory = IsToldOutcome words shelf out diag out_faults diag_faults NoMemory
+
+-- a device failed, or no memory was found, before there was an answer on the input
+abbrev pub IsInterrupted : Status → Type 0
+IsInterrupted Done = ⊥
+IsInterrupted (Refused refusal) = ⊥
+IsInterrupted (OpenFault which) = Unit {0}
+IsInterrupted (ReadFault which) = Unit {0}
+IsInterrupted (WriteFault Out) = ⊥
+IsInterrupted (WriteFault Diag) = Unit {0}
+IsInterrupted NoMemory = Unit {0}
+
+-- Where the files are told and the cause of a refusal stands in words and files, that refusal is answered, unless a
+-- device failed or no memory was found.
+abbrev pub RefusesWhere : List (List ℕ) → Option (List File) → Status → Type 0
+RefusesWhere words told status = (refusal : Refusal) (files : List File) → told ≡ Some files
+    → Cause refusal words (Some files) → (status ≡ Refused refusal) ⊎ IsInterrupted status
+
+-- the files are told, the words name two of them, and no cause of a refusal stands in words and files
+pub record IsInOrder (words : List (List ℕ)) (files : List File) : Type 0 where
+  pub there : ForSettings words (λ settings. (which : Which) → Lacks (Some files) (name_in settings which) → ⊥)
+  pub no_cause : (refusal : Refusal) → Cause refusal words (Some files) → ⊥
+
+-- no count of faults rose in the call
+pub record IsFaultless (shelf : Shown) (out_faults diag_faults : Count) : Type 0 where
+  pub starts : HasRisen shelf.starts → ⊥
+  pub reads : HasRisen shelf.reads → ⊥
+  pub out : HasRisen out_faults → ⊥
+  pub diag : HasRisen diag_faults → ⊥
+
+-- where input and devices are in order, the report is written, unless no memory was found
+abbrev pub ReportsWhere : List (List ℕ) → Shown → Count → Count → Status → Type 0
+ReportsWhere words shelf out_faults diag_faults status = (files : List File) → shelf.files ≡ Some files
+    → IsInOrder words files → IsFaultless shelf out_faults diag_faults → (status ≡ Done) ⊎ (status ≡ NoMemory)

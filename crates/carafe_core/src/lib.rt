@@ -1,0 +1,25 @@
+//! The top of carafe: from the words of a call and the files that they name to a written report and a status.
+//!
+//! The promise stands on the one call `carafe`. Over every list of words and every content of the files it answers
+//! `Done` only with the whole report written, `Refused` only where the cause of that refusal is the first that stands
+//! in words and files, and a fault only where that device failed in the call; and it refuses, or reports, wherever it
+//! should, unless a device fails or no memory is found. `specs/Answers.antt` says so status by status.
+//!
+//! So far there is one command, `bridges MAP CIF SIDE`, on one layer map and on layouts of a thin form in which each
+//! box is a net. The program `carafe_cli` stands on this crate.
+#![tactic(auto)]
+
+mod answer;
+mod layout;
+mod nets;
+mod ranking;
+mod report;
+mod settings;
+mod status;
+
+pub use answer::carafe;
+pub use settings::WordRefusal;
+pub use status::{Refusal, Status, Stream, Which};
+
+#[cfg(test)]
+mod tests;

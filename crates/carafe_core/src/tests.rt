@@ -1,0 +1,332 @@
+// The command on the layer map and layouts that it knows, through the top call.
+use crate::{Refusal, Status, Stream, Which, WordRefusal, carafe};
+use probe_io::{MemShelf, MemSink, Name};
+use std::alloc::{AllocError, Global};
+use std::test::Fail;
+
+const MAP: &str = "wire metal CMF\nlabel CMF metal\nhigh Vdd\nlow GND\n";
+
+const TWO_BOXES: &str = "L CMF; B 10 10 5 5; B 10 10 17 5; 94 Vdd 5 5; 94 GND 17 5; E";
+
+const CORNER: &str = "L CMF; B 10 10 5 5; B 10 10 15 15; 94 Vdd 5 5; 94 GND 15 15; E";
+
+const THREE_BOXES: &str =
+    "L CMF; B 2 10 1 5; B 2 10 5 5; B 2 10 9 5; 94 Vdd 1 5 CMF; 94 GND 5 5 CMF; E";
+
+/// Which calls of each device fail, and how many bytes a call moves.
+#[derive(Clone, Copy)]
+struct Faults<'a> {
+    shelf: &'a [u64],
+    out: &'a [u64],
+    diag: &'a [u64],
+    step: usize,
+}
+
+const NONE: Faults = Faults {
+    shelf: &[],
+    out: &[],
+    diag: &[],
+    step: 16,
+};
+
+/// How a call ended, and what stands on its sinks.
+#[derive(Drop)]
+struct Ending {
+    status: Status,
+    out: MemSink,
+    diag: MemSink,
+}
+
+/// Calls `carafe` with words that stand with single spaces, on the files `map`, `cif` and `other`.
+fn call(alloc: Global, words: &str, cif: &str, faults: &Faults) -> Result<Ending, AllocError> {
+    let mut list = Vec::new(alloc);
+    for word in words.split(' ') {
+        if !word.is_empty() {
+            list.push(Name::new(alloc, word)?)?;
+        }
+    }
+    let mut files = Vec::new(alloc);
+    files.push((
+        Name::new(alloc, "map")?,
+        Vec::from_slice(alloc, MAP.as_bytes())?,
+    ))?;
+    files.push((
+        Name::new(alloc, "cif")?,
+        Vec::from_slice(alloc, cif.as_bytes())?,
+    ))?;
+    files.push((
+        Name::new(alloc, "other")?,
+        Vec::from_slice(alloc, b"wire metal CMF\n")?,
+    ))?;
+    let step = if faults.step == 0 { 1 } else { faults.step };
+    let mut shelf = MemShelf::new(files, Vec::from_slice(alloc, faults.shelf)?, step);
+    let mut out = MemSink::new(alloc, Vec::from_slice(alloc, faults.out)?, step);
+    let mut diag = MemSink::new(alloc, Vec::from_slice(alloc, faults.diag)?, step);
+    let status = carafe(alloc, list.as_slice(), &mut shelf, &mut out, &mut diag);
+    Ok(Ending { status, out, diag })
+}
+
+#[test]
+fn reports_are_whole(rt: HostRuntime) -> Result<(), Fail> {
+    let rows = [
+        (
+            "bridges map cif 3",
+            TWO_BOXES,
+            "carafe bridges 1\nside 3\nnets 2\nlabels 2 0 0\nbridges 1\nbridge 1 Vdd GND 25 metal=25\ntally bridges 1\n",
+        ),
+        (
+            "bridges map cif 2",
+            TWO_BOXES,
+            "carafe bridges 1\nside 2\nnets 2\nlabels 2 0 0\nbridges 0\ntally bridges 0\n",
+        ),
+        (
+            "bridges map cif 1",
+            CORNER,
+            "carafe bridges 1\nside 1\nnets 2\nlabels 2 0 0\nbridges 1\nbridge 1 Vdd GND 1 metal=1\ntally bridges 1\n",
+        ),
+        (
+            "bridges map cif 7",
+            THREE_BOXES,
+            "carafe bridges 1\nside 7\nnets 3\nlabels 2 0 0\nbridges 3\nbridge 1 Vdd GND 297 metal=297\nbridge 2 GND #2 297 metal=297\nbridge 3 Vdd #2 33 metal=33\ntally bridges 3\n",
+        ),
+        (
+            "bridges map cif 32768",
+            "E",
+            "carafe bridges 1\nside 32768\nnets 0\nlabels 0 0 0\nbridges 0\ntally bridges 0\n",
+        ),
+        (
+            "bridges map cif 1",
+            "L CMF; B 10 10 5 5; 94 b 5 5; 94 a 4 4; 94 aa 6 6; E",
+            "carafe bridges 1\nside 1\nnets 1\nlabels 3 0 0\nbridges 0\ntally bridges 0\n",
+        ),
+        (
+            "bridges map cif 2",
+            "L CMF; B 2 2 -4 1; B 2 2 -1 1; 94 b -4 1; 94 a -4 1; E",
+            "carafe bridges 1\nside 2\nnets 2\nlabels 2 0 0\nbridges 1\nbridge 1 a #1 7 metal=7\ntally bridges 1\n",
+        ),
+    ];
+    for (words, cif, report) in rows {
+        let ending = call(rt.alloc(), words, cif, &NONE)?;
+        assert_eq!(rt; ending.status, Status::Done, "{words}");
+        assert_eq!(rt; ending.out.bytes(), report.as_bytes(), "{words}");
+        assert_eq!(rt; ending.diag.bytes().len(), 0, "{words}");
+    }
+    Ok(())
+}
+
+#[test]
+fn refusals_come_in_order(rt: HostRuntime) -> Result<(), Fail> {
+    let usage = Refusal::Words(WordRefusal::Usage);
+    let side = Refusal::Words(WordRefusal::BadSide);
+    let map = Refusal::NotBuilt(Which::Map);
+    let cif = Refusal::NotBuilt(Which::Cif);
+    let rows = [
+        ("", TWO_BOXES, usage, "carafe: Usage\n", 3),
+        ("--help", TWO_BOXES, usage, "carafe: Usage\n", 3),
+        ("bridges map cif", TWO_BOXES, usage, "carafe: Usage\n", 3),
+        (
+            "bridges map cif 3 3",
+            TWO_BOXES,
+            usage,
+            "carafe: Usage\n",
+            3,
+        ),
+        ("run map cif 3", TWO_BOXES, usage, "carafe: Usage\n", 3),
+        ("bridges map cif 0", TWO_BOXES, side, "carafe: BadSide\n", 3),
+        (
+            "bridges map cif 32769",
+            TWO_BOXES,
+            side,
+            "carafe: BadSide\n",
+            3,
+        ),
+        (
+            "bridges map cif 03",
+            TWO_BOXES,
+            side,
+            "carafe: BadSide\n",
+            3,
+        ),
+        (
+            "bridges map cif +3",
+            TWO_BOXES,
+            side,
+            "carafe: BadSide\n",
+            3,
+        ),
+        (
+            "bridges other absent x",
+            TWO_BOXES,
+            side,
+            "carafe: BadSide\n",
+            3,
+        ),
+        (
+            "bridges other absent 3",
+            TWO_BOXES,
+            map,
+            "carafe: NotBuilt map\n",
+            2,
+        ),
+        (
+            "bridges map cif 3",
+            "L CMF; B 10 10 5 5",
+            cif,
+            "carafe: NotBuilt cif\n",
+            2,
+        ),
+        (
+            "bridges map cif 3",
+            "L CMF; B 10 10 5 5; B 10 10 15 5; E",
+            cif,
+            "carafe: NotBuilt cif\n",
+            2,
+        ),
+        (
+            "bridges map cif 3",
+            "L CMF; B 10 10 5 5; 94 a 0 5; E",
+            cif,
+            "carafe: NotBuilt cif\n",
+            2,
+        ),
+        (
+            "bridges map cif 3",
+            "L CMF; B 10 10 5 5; 94 a 5 5; 94 a 6 6; E",
+            cif,
+            "carafe: NotBuilt cif\n",
+            2,
+        ),
+    ];
+    for (words, text, refusal, line, exit) in rows {
+        let ending = call(rt.alloc(), words, text, &NONE)?;
+        assert_eq!(rt; ending.status, Status::Refused(refusal), "{words}");
+        assert_eq!(rt; ending.status.exit_number(), exit, "{words}");
+        assert_eq!(rt; ending.diag.bytes(), line.as_bytes(), "{words}");
+        assert_eq!(rt; ending.out.bytes().len(), 0, "{words}");
+    }
+    Ok(())
+}
+
+#[test]
+fn faults_name_their_device(rt: HostRuntime) -> Result<(), Fail> {
+    let words = "bridges map cif 3";
+    let open_map = Status::OpenFault(Which::Map);
+    let open_cif = Status::OpenFault(Which::Cif);
+    let rows = [
+        (
+            "bridges absent cif 3",
+            Faults { ..NONE },
+            open_map,
+            "carafe: OpenFault map\n",
+            4,
+        ),
+        (
+            "bridges map absent 3",
+            Faults { ..NONE },
+            open_cif,
+            "carafe: OpenFault cif\n",
+            4,
+        ),
+        (
+            words,
+            Faults {
+                shelf: &[0],
+                ..NONE
+            },
+            open_map,
+            "carafe: OpenFault map\n",
+            4,
+        ),
+        (
+            words,
+            Faults {
+                shelf: &[1],
+                ..NONE
+            },
+            Status::ReadFault(Which::Map),
+            "carafe: ReadFault map\n",
+            4,
+        ),
+        (
+            words,
+            Faults {
+                shelf: &[5],
+                ..NONE
+            },
+            open_cif,
+            "carafe: OpenFault cif\n",
+            4,
+        ),
+        (
+            words,
+            Faults {
+                shelf: &[6],
+                ..NONE
+            },
+            Status::ReadFault(Which::Cif),
+            "carafe: ReadFault cif\n",
+            4,
+        ),
+        (
+            words,
+            Faults { out: &[0], ..NONE },
+            Status::WriteFault(Stream::Out),
+            "carafe: WriteFault out\n",
+            5,
+        ),
+        (
+            "",
+            Faults { diag: &[0], ..NONE },
+            Status::WriteFault(Stream::Diag),
+            "",
+            5,
+        ),
+        (
+            "",
+            Faults {
+                diag: &[1],
+                step: 8,
+                ..NONE
+            },
+            Status::WriteFault(Stream::Diag),
+            "carafe: ",
+            5,
+        ),
+    ];
+    for (words, faults, status, line, exit) in rows {
+        let ending = call(rt.alloc(), words, TWO_BOXES, &faults)?;
+        assert_eq!(rt; ending.status, status, "{words}");
+        assert_eq!(rt; ending.status.exit_number(), exit, "{words}");
+        assert_eq!(rt; ending.diag.bytes(), line.as_bytes(), "{words}");
+        assert_eq!(rt; ending.out.bytes().len(), 0, "{words}");
+    }
+    Ok(())
+}
+
+#[test]
+fn a_failed_write_leaves_a_front(rt: HostRuntime) -> Result<(), Fail> {
+    let whole = call(rt.alloc(), "bridges map cif 3", TWO_BOXES, &NONE)?;
+    for write in 0..1000 {
+        let faults = Faults {
+            out: &[write],
+            step: 1,
+            ..NONE
+        };
+        let ending = call(rt.alloc(), "bridges map cif 3", TWO_BOXES, &faults)?;
+        if ending.status == Status::Done {
+            assert_eq!(rt; write, whole.out.bytes().len() as u64);
+            return Ok(());
+        }
+        assert_eq!(rt;
+            ending.status,
+            Status::WriteFault(Stream::Out),
+            "write {write}"
+        );
+        assert_eq!(rt; ending.out.bytes().len() as u64, write);
+        assert!(rt;
+            whole.out.bytes().starts_with(ending.out.bytes()),
+            "write {write}"
+        );
+    }
+    Err(Fail::from("the report has no end"))
+}

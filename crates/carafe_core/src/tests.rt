@@ -13,6 +13,14 @@ const CORNER: &str = "L CMF; B 10 10 5 5; B 10 10 15 15; 94 Vdd 5 5; 94 GND 15 1
 const THREE_BOXES: &str =
     "L CMF; B 2 10 1 5; B 2 10 5 5; B 2 10 9 5; 94 Vdd 1 5 CMF; 94 GND 5 5 CMF; E";
 
+const CUT_OFF: &str = "L CMF; B 10 10 5 5";
+
+const TOUCHING: &str = "L CMF; B 10 10 5 5; B 10 10 15 5; E";
+
+const LABEL_ON_EDGE: &str = "L CMF; B 10 10 5 5; 94 a 0 5; E";
+
+const ONE_NAME: &str = "L CMF; B 10 10 5 5; 94 a 5 5; 94 a 6 6; E";
+
 /// Which calls of each device fail, and how many bytes a call moves.
 #[derive(Clone, Copy)]
 struct Faults<'a> {
@@ -116,88 +124,28 @@ fn reports_are_whole(rt: HostRuntime) -> Result<(), Fail> {
 
 #[test]
 fn refusals_come_in_order(rt: HostRuntime) -> Result<(), Fail> {
-    let usage = Refusal::Words(WordRefusal::Usage);
-    let side = Refusal::Words(WordRefusal::BadSide);
-    let map = Refusal::NotBuilt(Which::Map);
-    let cif = Refusal::NotBuilt(Which::Cif);
+    let usage = (Refusal::Words(WordRefusal::Usage), "carafe: Usage\n", 3);
+    let side = (Refusal::Words(WordRefusal::BadSide), "carafe: BadSide\n", 3);
+    let map = (Refusal::NotBuilt(Which::Map), "carafe: NotBuilt map\n", 2);
+    let cif = (Refusal::NotBuilt(Which::Cif), "carafe: NotBuilt cif\n", 2);
     let rows = [
-        ("", TWO_BOXES, usage, "carafe: Usage\n", 3),
-        ("--help", TWO_BOXES, usage, "carafe: Usage\n", 3),
-        ("bridges map cif", TWO_BOXES, usage, "carafe: Usage\n", 3),
-        (
-            "bridges map cif 3 3",
-            TWO_BOXES,
-            usage,
-            "carafe: Usage\n",
-            3,
-        ),
-        ("run map cif 3", TWO_BOXES, usage, "carafe: Usage\n", 3),
-        ("bridges map cif 0", TWO_BOXES, side, "carafe: BadSide\n", 3),
-        (
-            "bridges map cif 32769",
-            TWO_BOXES,
-            side,
-            "carafe: BadSide\n",
-            3,
-        ),
-        (
-            "bridges map cif 03",
-            TWO_BOXES,
-            side,
-            "carafe: BadSide\n",
-            3,
-        ),
-        (
-            "bridges map cif +3",
-            TWO_BOXES,
-            side,
-            "carafe: BadSide\n",
-            3,
-        ),
-        (
-            "bridges other absent x",
-            TWO_BOXES,
-            side,
-            "carafe: BadSide\n",
-            3,
-        ),
-        (
-            "bridges other absent 3",
-            TWO_BOXES,
-            map,
-            "carafe: NotBuilt map\n",
-            2,
-        ),
-        (
-            "bridges map cif 3",
-            "L CMF; B 10 10 5 5",
-            cif,
-            "carafe: NotBuilt cif\n",
-            2,
-        ),
-        (
-            "bridges map cif 3",
-            "L CMF; B 10 10 5 5; B 10 10 15 5; E",
-            cif,
-            "carafe: NotBuilt cif\n",
-            2,
-        ),
-        (
-            "bridges map cif 3",
-            "L CMF; B 10 10 5 5; 94 a 0 5; E",
-            cif,
-            "carafe: NotBuilt cif\n",
-            2,
-        ),
-        (
-            "bridges map cif 3",
-            "L CMF; B 10 10 5 5; 94 a 5 5; 94 a 6 6; E",
-            cif,
-            "carafe: NotBuilt cif\n",
-            2,
-        ),
+        ("", TWO_BOXES, usage),
+        ("--help", TWO_BOXES, usage),
+        ("bridges map cif", TWO_BOXES, usage),
+        ("bridges map cif 3 3", TWO_BOXES, usage),
+        ("run map cif 3", TWO_BOXES, usage),
+        ("bridges map cif 0", TWO_BOXES, side),
+        ("bridges map cif 32769", TWO_BOXES, side),
+        ("bridges map cif 03", TWO_BOXES, side),
+        ("bridges map cif +3", TWO_BOXES, side),
+        ("bridges other absent x", TWO_BOXES, side),
+        ("bridges other absent 3", TWO_BOXES, map),
+        ("bridges map cif 3", CUT_OFF, cif),
+        ("bridges map cif 3", TOUCHING, cif),
+        ("bridges map cif 3", LABEL_ON_EDGE, cif),
+        ("bridges map cif 3", ONE_NAME, cif),
     ];
-    for (words, text, refusal, line, exit) in rows {
+    for (words, text, (refusal, line, exit)) in rows {
         let ending = call(rt.alloc(), words, text, &NONE)?;
         assert_eq!(rt; ending.status, Status::Refused(refusal), "{words}");
         assert_eq!(rt; ending.status.exit_number(), exit, "{words}");
@@ -207,93 +155,61 @@ fn refusals_come_in_order(rt: HostRuntime) -> Result<(), Fail> {
     Ok(())
 }
 
+/// The shelf fails at these calls.
+fn at_shelf(calls: &[u64]) -> Faults<'_> {
+    Faults {
+        shelf: calls,
+        ..NONE
+    }
+}
+
+/// The report sink fails at these calls.
+fn at_out(calls: &[u64]) -> Faults<'_> {
+    Faults { out: calls, ..NONE }
+}
+
+/// The diagnostics sink fails at these calls, and a call moves so many bytes.
+fn at_diag(calls: &[u64], step: usize) -> Faults<'_> {
+    Faults {
+        diag: calls,
+        step,
+        ..NONE
+    }
+}
+
+// The map is started at call 0 and read by the next four, and the layout is started at call 5.
 #[test]
 fn faults_name_their_device(rt: HostRuntime) -> Result<(), Fail> {
     let words = "bridges map cif 3";
-    let open_map = Status::OpenFault(Which::Map);
-    let open_cif = Status::OpenFault(Which::Cif);
+    let open_map = (Status::OpenFault(Which::Map), "carafe: OpenFault map\n", 4);
+    let open_cif = (Status::OpenFault(Which::Cif), "carafe: OpenFault cif\n", 4);
+    let read_map = (Status::ReadFault(Which::Map), "carafe: ReadFault map\n", 4);
+    let read_cif = (Status::ReadFault(Which::Cif), "carafe: ReadFault cif\n", 4);
+    let write_out = (
+        Status::WriteFault(Stream::Out),
+        "carafe: WriteFault out\n",
+        5,
+    );
     let rows = [
+        ("bridges absent cif 3", NONE, open_map),
+        ("bridges map absent 3", NONE, open_cif),
+        (words, at_shelf(&[0]), open_map),
+        (words, at_shelf(&[1]), read_map),
+        (words, at_shelf(&[5]), open_cif),
+        (words, at_shelf(&[6]), read_cif),
+        (words, at_out(&[0]), write_out),
         (
-            "bridges absent cif 3",
-            Faults { ..NONE },
-            open_map,
-            "carafe: OpenFault map\n",
-            4,
-        ),
-        (
-            "bridges map absent 3",
-            Faults { ..NONE },
-            open_cif,
-            "carafe: OpenFault cif\n",
-            4,
-        ),
-        (
-            words,
-            Faults {
-                shelf: &[0],
-                ..NONE
-            },
-            open_map,
-            "carafe: OpenFault map\n",
-            4,
-        ),
-        (
-            words,
-            Faults {
-                shelf: &[1],
-                ..NONE
-            },
-            Status::ReadFault(Which::Map),
-            "carafe: ReadFault map\n",
-            4,
-        ),
-        (
-            words,
-            Faults {
-                shelf: &[5],
-                ..NONE
-            },
-            open_cif,
-            "carafe: OpenFault cif\n",
-            4,
-        ),
-        (
-            words,
-            Faults {
-                shelf: &[6],
-                ..NONE
-            },
-            Status::ReadFault(Which::Cif),
-            "carafe: ReadFault cif\n",
-            4,
-        ),
-        (
-            words,
-            Faults { out: &[0], ..NONE },
-            Status::WriteFault(Stream::Out),
-            "carafe: WriteFault out\n",
-            5,
+            "",
+            at_diag(&[0], 16),
+            (Status::WriteFault(Stream::Diag), "", 5),
         ),
         (
             "",
-            Faults { diag: &[0], ..NONE },
-            Status::WriteFault(Stream::Diag),
-            "",
-            5,
-        ),
-        (
-            "",
-            Faults {
-                diag: &[1],
-                step: 8,
-                ..NONE
-            },
-            Status::WriteFault(Stream::Diag),
-            "carafe: ",
-            5,
+            at_diag(&[1], 8),
+            (Status::WriteFault(Stream::Diag), "carafe: ", 5),
         ),
     ];
-    for (words, faults, status, line, exit) in rows {
+    for (words, faults, (status, line, exit)) in rows {
         let ending = call(rt.alloc(), words, TWO_BOXES, &faults)?;
         assert_eq!(rt; ending.status, status, "{words}");
         assert_eq!(rt; ending.status.exit_number(), exit, "{words}");
@@ -305,14 +221,15 @@ fn faults_name_their_device(rt: HostRuntime) -> Result<(), Fail> {
 
 #[test]
 fn a_failed_write_leaves_a_front(rt: HostRuntime) -> Result<(), Fail> {
-    let whole = call(rt.alloc(), "bridges map cif 3", TWO_BOXES, &NONE)?;
+    let words = "bridges map cif 3";
+    let whole = call(rt.alloc(), words, TWO_BOXES, &NONE)?;
     for write in 0..1000 {
+        let calls = [write];
         let faults = Faults {
-            out: &[write],
             step: 1,
-            ..NONE
+            ..at_out(&calls)
         };
-        let ending = call(rt.alloc(), "bridges map cif 3", TWO_BOXES, &faults)?;
+        let ending = call(rt.alloc(), words, TWO_BOXES, &faults)?;
         if ending.status == Status::Done {
             assert_eq!(rt; write, whole.out.bytes().len() as u64);
             return Ok(());

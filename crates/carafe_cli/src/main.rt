@@ -17,7 +17,13 @@ fn main(rt: HostRuntime) -> ExitCode {
     let mut shelf = FileShelf::new(&rt);
     let mut out = StreamSink::new(rt.stdout());
     let mut diag = StreamSink::new(rt.stderr());
-    let status = carafe(rt.alloc(), words.as_slice(), &mut shelf, &mut out, &mut diag);
+    let status = carafe(
+        rt.alloc(),
+        words.as_slice(),
+        &mut shelf,
+        &mut out,
+        &mut diag,
+    );
     ExitCode::from(status.exit_number())
 }
 

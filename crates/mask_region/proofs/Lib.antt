@@ -1,0 +1,4 @@
+pub mod Banding
+pub mod Joins
+pub mod Putting
+pub mod Rows

@@ -60,3 +60,20 @@ pub record IsCellWithin (bound : ℕ) (x y : ℤ) : Type 0 where
   pub right : x <ℤ pos bound
   pub below : neg_ℤ (pos bound) ≤ℤ y
   pub above : y <ℤ pos bound
+
+-- ---- masks
+
+-- Regions in three lists: one region for each wire, cut and channel line of a layer map.
+pub record MaskLists : Type 0 where
+  pub wires : List (List Strip)
+  pub cuts : List (List Strip)
+  pub channels : List (List Strip)
+
+-- No coordinate of the regions is further from 0.
+pub record AreRegionsWithin (bound : ℕ) (regions : List (List Strip)) : Type 0 where
+  pub each : All (AreStripsWithin bound) regions
+
+pub record AreMasksWithin (bound : ℕ) (masks : MaskLists) : Type 0 where
+  pub wires : AreRegionsWithin bound masks.wires
+  pub cuts : AreRegionsWithin bound masks.cuts
+  pub channels : AreRegionsWithin bound masks.channels

@@ -1,5 +1,5 @@
 -- The sweep over the strips of a region, row by row.
-use Rattle.std.specs.Prelude.{◌≡◌, ℕ, ◌≤◌, ◌^◌, ℤ, pos, ◌≤ℤ◌, ◌<ℤ◌, neg_ℤ, Bool, ◌&&◌, ◌||◌, List, take, drop, length}
+use Rattle.std.specs.Prelude.{◌≡◌, ℕ, ◌≤◌, ◌^◌, ℤ, pos, ◌≤ℤ◌, ◌<ℤ◌, neg_ℤ, Bool, not, int_lt, ◌&&◌, ◌||◌, List, take, drop, length}
 use Rattle.std.specs.List.{AllByRecursion}
 use Rattle.plane_geom.specs.Cells.{is_between}
 use Rattle.plane_geom.specs.Ends.{flips}
@@ -48,3 +48,8 @@ pub record IsShown (out : List Strip) (held : List ℤ) (from y : ℤ) : Type 0 
   pub row : IsRow held
   pub low : neg_ℤ (pos (2 ^ 25)) ≤ℤ from
   pub order : from ≤ℤ y
+
+-- In the order of the strips the cell comes behind this one: the strip ends below the cell's row, or it begins at
+-- that row or below and ends left of the cell.
+abbrev pub is_before_cell : ℤ → ℤ → Strip → Bool
+is_before_cell x y s = not (int_lt y s.y1) || (not (int_lt y s.y0) && not (int_lt x s.x1))

@@ -1,14 +1,14 @@
 -- How many cells a banded list of strips has.
 use Rattle.std.proofs.Common.{◌≡◌, ℕ, zero, suc, ◌+◌, ◌*◌, ◌<◌, ◌≤◌, ◌^◌, Bool, true, false, cond, ◌&&◌, ◌||◌, List, [], ◌∷◌, ◌++◌, length, take, refl, sym, ap, ◌∙◌, subst, arith}
 use Rattle.std.specs.Prelude.{ℤ, pos, neg_ℤ, ◌+ℤ◌, ◌≤ℤ◌, ◌<ℤ◌, sum_by, count_by, slice_index_or}
-use Rattle.std.specs.List.{All, AllByRecursion, list_any}
+use Rattle.std.specs.List.{AllByRecursion}
 use Rattle.std.proofs.lemmas.Int.{ints, by_lt_z}
 use Rattle.std.proofs.lemmas.List.{take_more}
 use Rattle.std.proofs.lemmas.List.Elements.{All-get_or, All-from_recursion}
 use Rattle.std.proofs.lemmas.List.Folds.{list_any_more}
 use Rattle.std.proofs.lemmas.List.Sums.{sum_by-cons, sum_by-le}
 use Rattle.plane_geom.specs.Cells.{is_between, numbers, count_window, count_cells, count_numbers}
-use Rattle.plane_geom.proofs.Counting.{count_cons, count_by_agree, sum_by_agree, count_cells_agree, count_cells_apart, count_numbers_between, length-numbers, count_none}
+use Rattle.plane_geom.proofs.Counting.{count_cons, sum_by_agree, count_cells_agree, count_cells_apart, count_numbers_between, length-numbers, count_none}
 use Rattle.mask_region.specs.declared.strips.Strip.{Strip}
 use Rattle.mask_region.specs.Strips.{is_in_strip, is_in, IsStrip, Follows, IsBanded, Banded}
 use Rattle.mask_region.proofs.Banding.{no_strip, strip_at, all_strips}
@@ -101,10 +101,10 @@ area_none =
     sym
     (sum_by_agree (λ y. count_by (λ (x : ℤ). false) line) (λ y. 0) line (λ y. count_none line)
     ∙ no_sum line)
-    where
-      no_sum : (xs : List ℤ) → sum_by (λ (y : ℤ). 0) xs ≡ 0
-      no_sum [] = refl
-      no_sum (x ∷ xs) = omega (arith, sum_by-cons (λ (y : ℤ). 0) x xs, no_sum xs)
+  where
+    no_sum : (xs : List ℤ) → sum_by (λ (y : ℤ). 0) xs ≡ 0
+    no_sum [] = refl
+    no_sum (x ∷ xs) = omega (arith, sum_by-cons (λ (y : ℤ). 0) x xs, no_sum xs)
 
 pub area_one : (s : Strip) (width height : ℕ) → IsStrip s → s.x0 +ℤ pos width ≡ s.x1 → s.y0 +ℤ pos height ≡ s.y1 → width * height ≡ count_cells (is_in_strip s)
 area_one s width height h ex ey =

@@ -1,20 +1,19 @@
 -- Banded lists of strips, swept row by row.
-use Rattle.std.proofs.Common.{◌≡◌, ℕ, zero, suc, ◌+◌, ◌<◌, ◌≤◌, ◌^◌, Bool, true, false, cond, not, ◌&&◌, ◌||◌, List, [], ◌∷◌, ◌++◌, length, take, drop, refl, sym, ap, ◌∙◌, subst, inl, inr, arith, add-one}
-use Rattle.std.specs.Prelude.{ℤ, pos, neg_ℤ, ◌≤ℤ◌, ◌<ℤ◌, int_lt, slice_index_or}
-use Rattle.std.specs.List.{All, AllByRecursion, list_any}
+use Rattle.std.proofs.Common.{◌≡◌, ℕ, zero, suc, ◌+◌, ◌<◌, ◌≤◌, ◌^◌, Bool, true, false, ◌||◌, List, [], ◌∷◌, ◌++◌, length, take, drop, refl, sym, ap, ◌∙◌, subst, arith}
+use Rattle.std.specs.Prelude.{ℤ, pos, ◌≤ℤ◌, ◌<ℤ◌, slice_index_or}
+use Rattle.std.specs.List.{All, AllByRecursion}
 use Rattle.std.proofs.lemmas.Int.{ints, by_lt_z}
-use Rattle.std.proofs.lemmas.List.{take_more, drop_more, drop_all, length-take-le, length_push, take-append-drop}
-use Rattle.std.proofs.lemmas.List.Elements.{All-nil, All-more, All-weaker, All-push, All-get_or}
-use Rattle.std.proofs.lemmas.List.Folds.{list_any-append}
+use Rattle.std.proofs.lemmas.List.{take_more, drop_more, drop_all, length_push}
+use Rattle.std.proofs.lemmas.List.Elements.{All-nil, All-weaker, All-push}
 use Rattle.plane_geom.specs.Bounds.{IsWithin}
 use Rattle.plane_geom.specs.Cells.{is_between}
 use Rattle.plane_geom.specs.Ends.{is_odd, flips}
 use Rattle.plane_geom.proofs.Ends.{odd_more, flips-pair}
 use Rattle.mask_region.proofs.Rows.{rising-push}
 use Rattle.mask_region.specs.declared.strips.Strip.{Strip}
-use Rattle.mask_region.specs.Rows.{end_at, IsRising, IsRow}
+use Rattle.mask_region.specs.Rows.{IsRising}
 use Rattle.mask_region.specs.Strips.{is_in_strip, is_in, IsStrip, Follows, IsBanded, Banded}
-use Rattle.mask_region.specs.Sweeping.{IsFree, AreAhead, ArePassed, IsEdge, IsRowOf, IsSplitAt}
+use Rattle.mask_region.specs.Sweeping.{IsFree, AreAhead, ArePassed, IsEdge, IsRowOf}
 
 abbrev pub no_strip : Strip
 no_strip = record { y0 = pos 0; y1 = pos 0; x0 = pos 0; x1 = pos 0 }
@@ -203,9 +202,9 @@ still_right : (y : ℤ) (ends : List ℤ) (s t : Strip) → s.x0 <ℤ s.x1 → s
 still_right y ends s t wide now more before f =
     record {
       each = λ h.
-        let level : s.y0 ≡ t.y0 = by_lt_z s.y0 t.y0 (λ above. absurd (let apart : s.y1 ≤ℤ t.y0 = f.apart above in omega (arith, ints))) (λ same. omega (arith, ints, f.later)) in
-        let right : s.x1 <ℤ t.x0 = f.right level in
-        All-push (λ e. e <ℤ t.x0) (ends ++ s.x0 ∷ []) s.x1 (All-push (λ e. e <ℤ t.x0) ends s.x0 (weaken_to s.x0 t.x0 ends (omega (arith, ints)) before) (omega (arith, ints))) right;
+          let level : s.y0 ≡ t.y0 = by_lt_z s.y0 t.y0 (λ above. absurd (let apart : s.y1 ≤ℤ t.y0 = f.apart above in omega (arith, ints))) (λ same. omega (arith, ints, f.later)) in
+          let right : s.x1 <ℤ t.x0 = f.right level in
+          All-push (λ e. e <ℤ t.x0) (ends ++ s.x0 ∷ []) s.x1 (All-push (λ e. e <ℤ t.x0) ends s.x0 (weaken_to s.x0 t.x0 ends (omega (arith, ints)) before) (omega (arith, ints))) right;
     }
 
 pub row_more : (strips : List Strip) (s : Strip) (left : List Strip) (y : ℤ) (ends : List ℤ) → IsRowBut strips (s ∷ left) y ends → s.y0 ≤ℤ y
@@ -223,11 +222,11 @@ row_more strips s left y ends h now =
       right = all_as (Follows s) (IsRight y ((ends ++ s.x0 ∷ []) ++ s.x1 ∷ [])) left (λ t f. still_right y ends s t strip.wide now more before f) h.banded.1;
       free = λ z f. (h.free z f).1;
       cells = λ x z low f.
-        let up : z <ℤ s.y1 = (h.free z f).0.now now in
-        h.cells x z low f
-        ∙ ap (λ b. flips ends x || (b || is_in left x z)) (in_row x z s (omega (arith, ints)) up)
-        ∙ or_shift (flips ends x) (is_between s.x0 s.x1 x) (is_in left x z)
-        ∙ ap (λ b. b || is_in left x z) (sym (flips-pair ends s.x0 s.x1 x (weaken_le s.x0 ends before) h.even (omega (arith, ints, strip.wide))));
+          let up : z <ℤ s.y1 = (h.free z f).0.now now in
+          h.cells x z low f
+          ∙ ap (λ b. flips ends x || (b || is_in left x z)) (in_row x z s (omega (arith, ints)) up)
+          ∙ or_shift (flips ends x) (is_between s.x0 s.x1 x) (is_in left x z)
+          ∙ ap (λ b. b || is_in left x z) (sym (flips-pair ends s.x0 s.x1 x (weaken_le s.x0 ends before) h.even (omega (arith, ints, strip.wide))));
     }
 
 or_false : (p q : Bool) → q ≡ false → (p || q) ≡ p

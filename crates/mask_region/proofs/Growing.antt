@@ -1,6 +1,6 @@
 -- The placements that meet strips.
 use Rattle.std.proofs.Common.{◌≡◌, ℕ, zero, suc, ◌+◌, ◌<◌, ◌≤◌, ◌^◌, Bool, true, false, ◌&&◌, ◌||◌, List, [], ◌∷◌, ◌++◌, length, take, refl, sym, ap, ◌∙◌, arith}
-use Rattle.std.specs.Prelude.{ℤ, pos, ◌+ℤ◌, ◌-ℤ◌, ◌≤ℤ◌, ◌<ℤ◌}
+use Rattle.std.specs.Prelude.{ℤ, pos, ◌+ℤ◌, ◌-ℤ◌}
 use Rattle.std.specs.List.{All, list_any}
 use Rattle.std.proofs.lemmas.Int.{ints}
 use Rattle.std.proofs.lemmas.List.{take_all}
@@ -67,12 +67,12 @@ grown_more side strips k rects made r h so_far near cells e =
     (record {
       within = All-push (IsRectWithin (2 ^ 25)) rects r so_far.within near;
       cells = λ x y.
-        list_any-append (λ r. is_in_rect r x y) rects (r ∷ [])
-        ∙ (λ i. so_far.cells x y i || or_false (is_in_rect r x y) i)
-        ∙ ap (λ b. is_met side (is_in (take k strips)) x y || b) (cells x y)
-        ∙ sym (met_either side (is_in (take k strips)) (is_in_strip (strip_at strips k)) x y)
-        ∙ is_met_agree side (λ i j. is_in (take k strips) i j || is_in_strip (strip_at strips k) i j) (is_in (take (k + 1) strips)) x y
-        (λ i j. sym (list_any_more (λ s. is_in_strip s i j) strips k no_strip h));
+          list_any-append (λ r. is_in_rect r x y) rects (r ∷ [])
+          ∙ (λ i. so_far.cells x y i || or_false (is_in_rect r x y) i)
+          ∙ ap (λ b. is_met side (is_in (take k strips)) x y || b) (cells x y)
+          ∙ sym (met_either side (is_in (take k strips)) (is_in_strip (strip_at strips k)) x y)
+          ∙ is_met_agree side (λ i j. is_in (take k strips) i j || is_in_strip (strip_at strips k) i j) (is_in (take (k + 1) strips)) x y
+          (λ i j. sym (list_any_more (λ s. is_in_strip s i j) strips k no_strip h));
     })
 
 pub grown_all : (side : ℕ) (strips : List Strip) (k : ℕ) (rects : List Rect) → length strips ≤ k → AreGrown side strips k rects → (x y : ℤ) → is_in_rects rects x y ≡ is_met side (is_in strips) x y

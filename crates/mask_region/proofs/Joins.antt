@@ -1,9 +1,8 @@
 -- Two banded lists, joined band by band.
-use Rattle.std.proofs.Common.{◌≡◌, ℕ, ◌+◌, ◌<◌, ◌≤◌, ◌^◌, Bool, true, false, not, ◌&&◌, ◌||◌, List, [], ◌∷◌, ◌++◌, length, take, drop, refl, sym, ap, ◌∙◌, subst, arith}
+use Rattle.std.proofs.Common.{◌≡◌, ℕ, ◌≤◌, ◌^◌, Bool, true, false, ◌&&◌, ◌||◌, List, [], length, take, drop, refl, sym, ap, ◌∙◌, subst, arith}
 use Rattle.std.specs.Prelude.{ℤ, pos, neg_ℤ, ◌≤ℤ◌, ◌<ℤ◌}
-use Rattle.std.specs.List.{list_any, AllByRecursion}
 use Rattle.std.proofs.lemmas.Int.{ints, by_lt_z}
-use Rattle.std.proofs.lemmas.List.{take-append-drop, take_all, drop_all}
+use Rattle.std.proofs.lemmas.List.{take-append-drop, take_all}
 use Rattle.std.proofs.lemmas.List.Elements.{All-nil}
 use Rattle.std.proofs.lemmas.List.Folds.{list_any-append}
 use Rattle.plane_geom.specs.Bounds.{IsWithin}
@@ -15,7 +14,7 @@ use Rattle.mask_region.specs.declared.ends.Joining.TheVariants.{Union, Meet, Min
 use Rattle.mask_region.specs.Joins.{joined}
 use Rattle.mask_region.specs.Rows.{IsRow}
 use Rattle.mask_region.specs.Strips.{is_in_strip, is_in, IsStrip, Banded}
-use Rattle.mask_region.specs.Sweeping.{IsFree, AreAhead, ArePassed, IsEdge, IsRowOf, IsSplitAt, is_shown, IsShown}
+use Rattle.mask_region.specs.Sweeping.{ArePassed, IsEdge, IsRowOf, IsSplitAt, is_shown, IsShown}
 use Rattle.mask_region.proofs.Banding.{all_as, all_strips, none_above, passed_none, passed_further}
 
 -- Below the row y the strips and the held band are the joined set.
@@ -61,7 +60,7 @@ join_start op a b y out held banded_a banded_b low no_out no_held =
       shown = record { banded = record { each = tt }; passed = record { each = tt }; row = none_row; low = omega (arith, ints); order = omega (arith, ints) };
       high = omega (arith, ints);
       cells = λ x z below. sym (joined_nothing op)
-      ∙ (λ k. joined op (sym (start_none a y x z banded_a (omega (arith, ints)) below) k) (sym (start_none b y x z banded_b (omega (arith, ints)) below) k));
+          ∙ (λ k. joined op (sym (start_none a y x z banded_a (omega (arith, ints)) below) k) (sym (start_none b y x z banded_b (omega (arith, ints)) below) k));
     })
 
 -- ---- one row of one operand
@@ -114,9 +113,9 @@ join_more op a b i j y out held from next row_a row_b row out2 held2 from2 i2 j2
       shown = record { banded = shown.banded; passed = shown.passed; row = shown.row; low = shown.low; order = omega (arith, ints, shown.order, edge_a.later) };
       high = edge_a.near;
       cells = λ x z up. by_lt_z z y
-      (λ below. shown_below out2 held2 from2 y next x z below edge_a.later ∙ kept x z ∙ h.cells x z below)
-      (λ low. shown_now out2 held2 from2 y next x z shown low up ∙ now x ∙ joins x
-      ∙ (λ k. joined op (sym (row_cells a y i next row_a x z h.a_split edge_a is_a low up) k) (sym (row_cells b y j next row_b x z h.b_split edge_b is_b low up) k)));
+          (λ below. shown_below out2 held2 from2 y next x z below edge_a.later ∙ kept x z ∙ h.cells x z below)
+          (λ low. shown_now out2 held2 from2 y next x z shown low up ∙ now x ∙ joins x
+          ∙ (λ k. joined op (sym (row_cells a y i next row_a x z h.a_split edge_a is_a low up) k) (sym (row_cells b y j next row_b x z h.b_split edge_b is_b low up) k)));
     }
 
 -- ---- the end

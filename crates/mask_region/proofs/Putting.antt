@@ -1,11 +1,11 @@
 -- Bands that are put behind others.
-use Rattle.std.proofs.Common.{◌≡◌, ℕ, zero, suc, ◌+◌, ◌<◌, ◌≤◌, ◌^◌, Bool, true, false, cond, not, ◌&&◌, ◌||◌, List, [], ◌∷◌, ◌++◌, length, take, drop, refl, sym, ap, ◌∙◌, subst, inl, inr, arith, add-one}
-use Rattle.std.specs.Prelude.{ℤ, pos, neg_ℤ, ◌≤ℤ◌, ◌<ℤ◌, int_lt, slice_index_or}
-use Rattle.std.specs.List.{All, AllByRecursion, list_any}
+use Rattle.std.proofs.Common.{◌≡◌, ℕ, zero, suc, ◌+◌, ◌<◌, ◌≤◌, ◌^◌, Bool, true, false, not, ◌&&◌, ◌||◌, List, [], ◌∷◌, ◌++◌, length, take, refl, sym, ap, ◌∙◌, subst, inl, inr, arith, add-one}
+use Rattle.std.specs.Prelude.{ℤ, pos, neg_ℤ, ◌≤ℤ◌, ◌<ℤ◌}
+use Rattle.std.specs.List.{All, AllByRecursion}
 use Rattle.std.proofs.lemmas.Bool.{cases_lt, false≢true}
 use Rattle.std.proofs.lemmas.Int.{ints, by_lt_z}
 use Rattle.std.proofs.lemmas.List.{take_more, take_all, length-take-le}
-use Rattle.std.proofs.lemmas.List.Elements.{All-nil, All-more, All-weaker, All-push, All-get_or}
+use Rattle.std.proofs.lemmas.List.Elements.{All-nil, All-more, All-weaker, All-get_or}
 use Rattle.std.proofs.lemmas.List.Folds.{list_any-append}
 use Rattle.plane_geom.specs.Bounds.{IsWithin}
 use Rattle.plane_geom.specs.Cells.{is_between}
@@ -86,17 +86,17 @@ still_before y0 y1 row k s lt rising b =
       below = b.below;
       above = b.above;
       right = λ up h.
-        let here : s.x1 <ℤ end_at row k = b.right up (omega arith) in
-        let one : end_at row k <ℤ end_at row (k + 1) = rising.each k lt in
-        let two : end_at row (k + 1) <ℤ end_at row (k + 2) = two_on row k rising h in
-        omega (arith, ints);
+          let here : s.x1 <ℤ end_at row k = b.right up (omega arith) in
+          let one : end_at row k <ℤ end_at row (k + 1) = rising.each k lt in
+          let two : end_at row (k + 1) <ℤ end_at row (k + 2) = two_on row k rising h in
+          omega (arith, ints);
     }
-    where
-      two_on : (row : List ℤ) (k : ℕ) → IsRising row → k + 2 < length row → end_at row (k + 1) <ℤ end_at row (k + 2)
-      two_on row k rising h =
-          let e : (k + 1) + 1 ≡ k + 2 = omega arith in
-          let P : ℕ → Type 0 = λ n. n < length row → end_at row (k + 1) <ℤ end_at row n in
-          subst P e (rising.each (k + 1)) h
+  where
+    two_on : (row : List ℤ) (k : ℕ) → IsRising row → k + 2 < length row → end_at row (k + 1) <ℤ end_at row (k + 2)
+    two_on row k rising h =
+        let e : (k + 1) + 1 ≡ k + 2 = omega arith in
+        let P : ℕ → Type 0 = λ n. n < length row → end_at row (k + 1) <ℤ end_at row n in
+        subst P e (rising.each (k + 1)) h
 
 it_before : (y0 y1 : ℤ) (row : List ℤ) (k : ℕ) (t : Strip) → IsRising row → t.y0 ≡ y0 → t.y1 ≡ y1 → t.x1 ≡ end_at row (k + 1) → IsBefore y0 y1 row (k + 2) t
 it_before y0 y1 row k t rising e0 e1 ex =
@@ -104,9 +104,9 @@ it_before y0 y1 row k t rising e0 e1 ex =
       below = λ up. e0;
       above = λ up. e1;
       right = λ up h.
-        let e : (k + 1) + 1 ≡ k + 2 = omega arith in
-        let P : ℕ → Type 0 = λ n. n < length row → end_at row (k + 1) <ℤ end_at row n in
-        rw ex (subst P e (rising.each (k + 1)) h);
+          let e : (k + 1) + 1 ≡ k + 2 = omega arith in
+          let P : ℕ → Type 0 = λ n. n < length row → end_at row (k + 1) <ℤ end_at row n in
+          rw ex (subst P e (rising.each (k + 1)) h);
     }
 
 take_two : (row : List ℤ) (k : ℕ) → k + 1 < length row → take (k + 2) row ≡ (take k row ++ end_at row k ∷ []) ++ end_at row (k + 1) ∷ []
@@ -153,20 +153,20 @@ put_more old row k y0 y1 out t is_row high low top lt e0 e1 ex0 ex1 h =
       banded = banded-push out t h.banded strip (all_with (IsBefore y0 y1 row k) IsStrip (λ s. Follows s t) out (λ s b st. follows_put y0 y1 row k s t high (omega arith) e0 e1 ex0 b st) h.before (all_strips out h.banded));
       before = all_push (IsBefore y0 y1 row (k + 2)) out t (all_as (IsBefore y0 y1 row k) (IsBefore y0 y1 row (k + 2)) out (λ s b. still_before y0 y1 row k s lt is_row.rising b) h.before) (it_before y0 y1 row k t is_row.rising e0 e1 ex1);
       cells = λ x z.
-        list_any-append (λ s. is_in_strip s x z) out (t ∷ [])
-        ∙ ap (λ b. b || (is_in_strip t x z || false)) (h.cells x z)
-        ∙ put_cells (is_in old x z) (is_in_strip t x z) (flips (take k row) x) (is_between (end_at row k) (end_at row (k + 1)) x) (is_between y0 y1 z) (rw (ex0, ex1, e0, e1) refl)
-        ∙ ap (λ b. is_in old x z || (b && is_between y0 y1 z)) (sym (spans_more row k x is_row.rising h.even lt));
+          list_any-append (λ s. is_in_strip s x z) out (t ∷ [])
+          ∙ ap (λ b. b || (is_in_strip t x z || false)) (h.cells x z)
+          ∙ put_cells (is_in old x z) (is_in_strip t x z) (flips (take k row) x) (is_between (end_at row k) (end_at row (k + 1)) x) (is_between y0 y1 z) (rw (ex0, ex1, e0, e1) refl)
+          ∙ ap (λ b. is_in old x z || (b && is_between y0 y1 z)) (sym (spans_more row k x is_row.rising h.even lt));
     }
-    where
-      two_more : (k : ℕ) → k + 2 ≡ (k + 1) + 1
-      two_more k = omega arith
+  where
+    two_more : (k : ℕ) → k + 2 ≡ (k + 1) + 1
+    two_more k = omega arith
 
 odd_apart : (n k : ℕ) → is_odd n ≡ false → is_odd k ≡ false → k ≤ n → n ≤ k + 1 → k ≡ n
 odd_apart n k en ek le more = elim (cases_lt k n) [
-    | inl lt ↦ absurd (let e : n ≡ k + 1 = omega arith in false≢true (sym en ∙ ap is_odd e ∙ odd_more k ∙ ap not ek))
-    | inr ge ↦ omega arith
-  ]
+  | inl lt ↦ absurd (let e : n ≡ k + 1 = omega arith in false≢true (sym en ∙ ap is_odd e ∙ odd_more k ∙ ap not ek))
+  | inr ge ↦ omega arith
+]
 
 all_ended : (y0 y1 : ℤ) (row : List ℤ) (k : ℕ) (s : Strip) → y0 ≤ℤ y1 → IsBefore y0 y1 row k s → s.y1 ≤ℤ y1
 all_ended y0 y1 row k s le b = by_lt_z y0 s.y1 (λ up. let top : s.y1 ≡ y1 = b.above up in omega (arith, ints, top)) (λ down. omega (arith, ints))
@@ -185,11 +185,11 @@ low_band : (p q : Bool) (y0 y1 z : ℤ) → y1 ≤ℤ y0 → p ≡ (p || (q && i
 low_band p q y0 y1 z h =
     let none : is_between y0 y1 z ≡ false = grind (arith, ints) in
     rw none (go p q)
-    where
-      go : (p q : Bool) → p ≡ (p || (q && false))
-      go true q = refl
-      go false true = refl
-      go false false = refl
+  where
+    go : (p q : Bool) → p ≡ (p || (q && false))
+    go true q = refl
+    go false true = refl
+    go false false = refl
 
 pub put_nothing : (old : List Strip) (row : List ℤ) (y0 y1 : ℤ) → y1 ≤ℤ y0 → (x z : ℤ) → is_in old x z ≡ (is_in old x z || (flips row x && is_between y0 y1 z))
 put_nothing old row y0 y1 h x z = low_band (is_in old x z) (flips row x) y0 y1 z h

@@ -1,7 +1,7 @@
 -- Rows of ends, passed and pushed one by one.
 use Rattle.std.proofs.Common.{◌≡◌, ℕ, ◌+◌, ◌<◌, ◌≤◌, ◌^◌, Bool, true, false, cond, not, List, [], ◌∷◌, ◌++◌, length, take, refl, sym, ap, ◌∙◌, subst, inl, inr, arith}
 use mathlib.Core.Bool.{beq}
-use Rattle.std.specs.Prelude.{ℤ, pos, ◌≤ℤ◌, ◌<ℤ◌, int_lt, slice_index_or}
+use Rattle.std.specs.Prelude.{ℤ, pos, ◌≤ℤ◌, ◌<ℤ◌, int_lt}
 use Rattle.std.specs.List.{All}
 use Rattle.std.proofs.lemmas.Bool.{cases_lt}
 use Rattle.std.proofs.lemmas.Int.{ints, by_lt_z}
@@ -39,9 +39,9 @@ rising-push ends x rising near before =
       each = λ k h. elim (cases_lt (k + 1) (length ends)) [
         | inl lt ↦ rw (get_or_append_left ends (x ∷ []) (pos 0) k (omega arith), get_or_append_left ends (x ∷ []) (pos 0) (k + 1) lt) (rising.each k lt)
         | inr le ↦
-          let last : length ends ≡ k + 1 = omega (arith, length_push ends x) in
-          rw (get_or_append_left ends (x ∷ []) (pos 0) k (omega arith), get_or_push ends x (pos 0) (k + 1) last)
-          (All-get_or (λ t. t <ℤ x) ends k (pos 0) (omega arith) before)
+            let last : length ends ≡ k + 1 = omega (arith, length_push ends x) in
+            rw (get_or_append_left ends (x ∷ []) (pos 0) k (omega arith), get_or_push ends x (pos 0) (k + 1) last)
+            (All-get_or (λ t. t <ℤ x) ends k (pos 0) (omega arith) before)
       ];
       within = All-push (IsWithin (2 ^ 25)) ends x rising.within near;
     }
@@ -151,6 +151,6 @@ joined_more op a b i j out x i2 j2 out2 h pa pb t =
       rising = t.rising;
       whole = t.whole;
       cells = λ z. by_lt_z z x
-      (λ lt. t.turns.kept z lt ∙ h.cells z ∙ (λ k. joined op (sym (pa.turns.kept z lt) k) (sym (pb.turns.kept z lt) k)))
-      (λ le. t.turns.now z le ∙ (λ k. joined op (sym (pa.turns.now z le) k) (sym (pb.turns.now z le) k)));
+          (λ lt. t.turns.kept z lt ∙ h.cells z ∙ (λ k. joined op (sym (pa.turns.kept z lt) k) (sym (pb.turns.kept z lt) k)))
+          (λ le. t.turns.now z le ∙ (λ k. joined op (sym (pa.turns.now z le) k) (sym (pb.turns.now z le) k)));
     }

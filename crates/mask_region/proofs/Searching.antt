@@ -1,14 +1,12 @@
 -- A cell is looked up by halving the list of strips.
-use Rattle.std.proofs.Common.{◌≡◌, ℕ, zero, suc, ◌+◌, ◌<◌, ◌≤◌, Bool, true, false, not, ◌&&◌, ◌||◌, List, [], ◌∷◌, length, get_or, refl, sym, ap, ◌∙◌, inl, inr, arith}
-use Rattle.std.specs.Prelude.{ℤ, ◌≤ℤ◌, ◌<ℤ◌, int_lt, slice_index_or}
-use Rattle.std.specs.List.{All, AllWithin, AllByRecursion, list_any}
+use Rattle.std.proofs.Common.{◌≡◌, ℕ, zero, suc, ◌<◌, ◌≤◌, Bool, true, false, List, [], ◌∷◌, length, get_or, sym, inl, inr, arith}
+use Rattle.std.specs.Prelude.{ℤ, ◌≤ℤ◌, ◌<ℤ◌, slice_index_or}
 use Rattle.std.specs.List.Sorted.{IsPartitionedBy, IsPartitionPoint}
 use Rattle.std.proofs.lemmas.Bool.{cases_lt, cases_eq}
 use Rattle.std.proofs.lemmas.Int.{ints, by_lt_z}
 use Rattle.std.proofs.lemmas.List.{get_or_default}
 use Rattle.std.proofs.lemmas.List.Elements.{All-get_or, All-from_recursion}
 use Rattle.std.proofs.lemmas.List.Folds.{list_any_none, list_any_at}
-use Rattle.plane_geom.specs.Cells.{is_between}
 use Rattle.mask_region.specs.declared.strips.Strip.{Strip}
 use Rattle.mask_region.specs.Strips.{is_in_strip, is_in, IsStrip, Follows, IsBanded, Banded}
 use Rattle.mask_region.specs.Sweeping.{is_before_cell}
@@ -36,8 +34,8 @@ pub partitioned : (strips : List Strip) (x y : ℤ) → Banded strips → IsPart
 partitioned strips x y banded i j d le lt h =
     elim (cases_lt i j) [
       | inl less ↦
-        before_too x y (get_or strips i d) (get_or strips j d) (All-get_or IsStrip strips j d lt (All-from_recursion IsStrip strips (all_strips strips banded.each)))
-        (follows_at strips i j d banded.each less lt) h
+          before_too x y (get_or strips i d) (get_or strips j d) (All-get_or IsStrip strips j d lt (All-from_recursion IsStrip strips (all_strips strips banded.each)))
+          (follows_at strips i j d banded.each less lt) h
       | inr more ↦ let same : i ≡ j = omega arith in rw same h
     ]
 

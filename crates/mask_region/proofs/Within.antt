@@ -1,7 +1,7 @@
 -- Strips lie within the bound of their cells.
-use Rattle.std.proofs.Common.{◌≡◌, ℕ, Bool, true, false, ◌||◌, List, [], ◌∷◌, refl, sym, inl, inr, arith, ◌⊎◌}
-use Rattle.std.specs.Prelude.{ℤ, pos, neg_ℤ, ◌-ℤ◌, ◌≤ℤ◌, ◌<ℤ◌, slice_index_or}
-use Rattle.std.specs.List.{All, list_any}
+use Rattle.std.proofs.Common.{◌≡◌, ℕ, Bool, true, false, ◌||◌, List, [], ◌∷◌, refl, inl, inr, arith, ◌⊎◌}
+use Rattle.std.specs.Prelude.{ℤ, pos, ◌-ℤ◌, slice_index_or}
+use Rattle.std.specs.List.{All}
 use Rattle.std.proofs.lemmas.Bool.{false≢true}
 use Rattle.std.proofs.lemmas.Int.{ints}
 use Rattle.std.proofs.lemmas.List.Elements.{All-get_or, All-head, All-tail, All-from_recursion}
@@ -32,11 +32,11 @@ pub within-cells : (bound : ℕ) (strips : List Strip) → Banded strips → ((x
 within-cells bound strips banded cells =
     record {
       each = λ k d lt.
-        let s : Strip = slice_index_or strips k d in
-        let strip : IsStrip s = All-get_or IsStrip strips k d lt (All-from_recursion IsStrip strips (all_strips strips banded.each)) in
-        by_corners bound s strip
-        (cells s.x0 s.y0 (list_any_at (λ t. is_in_strip t s.x0 s.y0) strips k d lt (first_cell s strip)))
-        (cells (s.x1 -ℤ pos 1) (s.y1 -ℤ pos 1) (list_any_at (λ t. is_in_strip t (s.x1 -ℤ pos 1) (s.y1 -ℤ pos 1)) strips k d lt (last_cell s strip)));
+          let s : Strip = slice_index_or strips k d in
+          let strip : IsStrip s = All-get_or IsStrip strips k d lt (All-from_recursion IsStrip strips (all_strips strips banded.each)) in
+          by_corners bound s strip
+          (cells s.x0 s.y0 (list_any_at (λ t. is_in_strip t s.x0 s.y0) strips k d lt (first_cell s strip)))
+          (cells (s.x1 -ℤ pos 1) (s.y1 -ℤ pos 1) (list_any_at (λ t. is_in_strip t (s.x1 -ℤ pos 1) (s.y1 -ℤ pos 1)) strips k d lt (last_cell s strip)));
     }
 
 or_cases : (p q : Bool) → (p || q) ≡ true → (p ≡ true) ⊎ (q ≡ true)
@@ -55,9 +55,9 @@ rect_cell bound r x y h e =
 pub rects_cell : (bound : ℕ) (rects : List Rect) (x y : ℤ) → All (IsRectWithin bound) rects → is_in_rects rects x y ≡ true → IsCellWithin bound x y
 rects_cell bound [] x y h e = absurd (false≢true e)
 rects_cell bound (r ∷ rects) x y h e = elim (or_cases (is_in_rect r x y) (is_in_rects rects x y) e) [
-    | inl here ↦ rect_cell bound r x y (All-head (IsRectWithin bound) r rects h) here
-    | inr there ↦ rects_cell bound rects x y (All-tail (IsRectWithin bound) r rects h) there
-  ]
+  | inl here ↦ rect_cell bound r x y (All-head (IsRectWithin bound) r rects h) here
+  | inr there ↦ rects_cell bound rects x y (All-tail (IsRectWithin bound) r rects h) there
+]
 
 strip_cell : (bound : ℕ) (s : Strip) (x y : ℤ) → IsStripWithin bound s → is_in_strip s x y ≡ true → IsCellWithin bound x y
 strip_cell bound s x y h e =
@@ -71,9 +71,9 @@ strip_cell bound s x y h e =
 all_cell : (bound : ℕ) (strips : List Strip) (x y : ℤ) → All (IsStripWithin bound) strips → is_in strips x y ≡ true → IsCellWithin bound x y
 all_cell bound [] x y h e = absurd (false≢true e)
 all_cell bound (s ∷ strips) x y h e = elim (or_cases (is_in_strip s x y) (is_in strips x y) e) [
-    | inl here ↦ strip_cell bound s x y (All-head (IsStripWithin bound) s strips h) here
-    | inr there ↦ all_cell bound strips x y (All-tail (IsStripWithin bound) s strips h) there
-  ]
+  | inl here ↦ strip_cell bound s x y (All-head (IsStripWithin bound) s strips h) here
+  | inr there ↦ all_cell bound strips x y (All-tail (IsStripWithin bound) s strips h) there
+]
 
 -- A cell of strips within a bound is within it.
 pub strips_cell : (bound : ℕ) (strips : List Strip) (x y : ℤ) → AreStripsWithin bound strips → is_in strips x y ≡ true → IsCellWithin bound x y

@@ -1,5 +1,5 @@
 -- Worked values of the definitions, each computed.
-use Rattle.std.proofs.Common.{◌≡◌, Bool, true, false, not, ◌&&◌, List, [], ◌∷◌, refl}
+use Rattle.std.proofs.Common.{◌≡◌, Bool, true, false, not, ◌&&◌, [], ◌∷◌, refl}
 use Rattle.std.specs.Prelude.{ℤ, pos, negsuc}
 use Rattle.plane_geom.specs.Cells.{is_met, count_window, numbers}
 use Rattle.mask_region.specs.declared.strips.Strip.{Strip}

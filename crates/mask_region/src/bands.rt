@@ -6,17 +6,21 @@ ghost use Rattle.mask_region.specs.Rows.{IsRow};
 ghost use Rattle.mask_region.specs.Strips.{is_in, Banded};
 ghost use Rattle.mask_region.specs.Sweeping.{AreAhead, ArePassed, IsEdge, IsRowOf, IsSplitAt, IsShown, is_shown};
 
-use std::alloc::{AllocError, Global};
-use std::mem;
-
 use crate::ends::{Joining, join_rows};
 use crate::strips::Strip;
+use std::alloc::{AllocError, Global};
+use std::mem;
 
 /// The lowest row that a region may have, in mask units.
 const LOWEST: i32 = -33_554_432;
 
 /// The strips of the joined set, where `a` and `b` are those of two sets. Rows that are alike are put into one band.
-pub(crate) fn join(alloc: Global, op: Joining, a: &[Strip], b: &[Strip]) -> Result<Vec<Strip>, AllocError>
+pub(crate) fn join(
+    alloc: Global,
+    op: Joining,
+    a: &[Strip],
+    b: &[Strip],
+) -> Result<Vec<Strip>, AllocError>
     requires a_banded { Banded a.now }
     requires b_banded { Banded b.now }
     ensures banded { IfOk result (λ v. Banded v.items) }
@@ -141,7 +145,13 @@ fn put_row(out: &mut Vec<Strip>, row: &[i32], y0: i32, y1: i32) -> Result<(), Al
 
 /// Where the ends of the row `y` are others than those of the band that is held back, puts that band and holds the
 /// row back in its place. The answer is the row where the held band begins.
-fn hold(out: &mut Vec<Strip>, held: &mut Vec<i32>, from: i32, y: i32, row: &mut Vec<i32>) -> Result<i32, AllocError>
+fn hold(
+    out: &mut Vec<Strip>,
+    held: &mut Vec<i32>,
+    from: i32,
+    y: i32,
+    row: &mut Vec<i32>,
+) -> Result<i32, AllocError>
     requires shown { IsShown out.old.items held.old.items from y }
     requires high { y ≤ℤ pos (2 ^ 25) }
     requires row { IsRow row.old.items }

@@ -29,7 +29,12 @@ impl Joining {
 }
 
 /// Writes the ends of the joined row, where `a` and `b` are the ends of two rows.
-pub(crate) fn join_rows(op: Joining, a: &[i32], b: &[i32], out: &mut Vec<i32>) -> Result<(), AllocError>
+pub(crate) fn join_rows(
+    op: Joining,
+    a: &[i32],
+    b: &[i32],
+    out: &mut Vec<i32>,
+) -> Result<(), AllocError>
     requires first { IsRow a.now }
     requires second { IsRow b.now }
     ensures row { OnOk result (IsRow out.new.items) }
@@ -68,7 +73,11 @@ fn past(ends: &[i32], k: usize, x: i32) -> usize
     requires before { All (λ t. t <ℤ x) (take k ends.now) }
     ensures { IsPast ends.now k x result }
 {
-    if k < ends.len() && ends[k] == x { k + 1 } else { k }
+    if k < ends.len() && ends[k] == x {
+        k + 1
+    } else {
+        k
+    }
 }
 
 /// Puts an end at `x` where what is behind the ends so far isn't `on` already.

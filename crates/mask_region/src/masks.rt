@@ -1,9 +1,8 @@
 ghost use Rattle.std.specs.Prelude.{◌≡◌, ◌^◌};
 ghost use Rattle.mask_region.specs.Strips.{AreRegionsWithin};
 
-use std::marker::Model;
-
 use crate::region::Region;
+use std::marker::Model;
 
 /// The regions of a layout: one for each wire, cut and channel line of a layer map, in the map's order. No coordinate
 /// of them is over 16,777,216 from 0.

@@ -4,13 +4,11 @@ ghost use Rattle.plane_geom.specs.Bounds.{IsRectWithin};
 ghost use Rattle.plane_geom.specs.Cells.{is_in_rect, is_in_rects};
 ghost use Rattle.mask_region.specs.Strips.{is_in_strip, is_in, IsStrip, Banded};
 
-use std::alloc::{AllocError, Global};
-
-use plane_geom::Rect;
-
 use crate::bands::join;
 use crate::ends::Joining;
 use crate::strips::Strip;
+use plane_geom::Rect;
+use std::alloc::{AllocError, Global};
 
 /// The strips of the cells of all rectangles: those of each half, joined.
 pub(crate) fn strips_of(alloc: Global, rects: &[Rect]) -> Result<Vec<Strip>, AllocError>

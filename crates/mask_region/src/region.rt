@@ -5,16 +5,14 @@ ghost use Rattle.plane_geom.specs.Cells.{is_in_rects, is_met, count_cells};
 ghost use Rattle.mask_region.specs.Joins.{joined};
 ghost use Rattle.mask_region.specs.Strips.{is_in, AreStripsWithin, Banded};
 
-use std::alloc::{AllocError, Global};
-use std::marker::Model;
-
-use plane_geom::{Point, Rect};
-
 use crate::bands::join;
 use crate::ends::Joining;
 use crate::rects::strips_of;
 use crate::sizes::{area_of, grown_rects, has_cell};
 use crate::strips::Strip;
+use plane_geom::{Point, Rect};
+use std::alloc::{AllocError, Global};
+use std::marker::Model;
 
 /// A set of cells with both coordinates from -33,554,432 to 33,554,431. Contracts see it as its list of strips, of
 /// which `is_in` says the cells. The strips are banded: none is empty, no two share a cell, and they come by `y0` and

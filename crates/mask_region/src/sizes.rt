@@ -4,14 +4,16 @@ ghost use Rattle.plane_geom.specs.Bounds.{IsRectWithin};
 ghost use Rattle.plane_geom.specs.Cells.{is_in_rects, is_met, count_cells};
 ghost use Rattle.mask_region.specs.Strips.{is_in, AreStripsWithin, Banded};
 
+use crate::strips::Strip;
+use plane_geom::{Point, Rect};
 use std::alloc::{AllocError, Global};
 
-use plane_geom::{Point, Rect};
-
-use crate::strips::Strip;
-
 /// For each strip the rectangle of the placements whose square of `side` cells on a side meets the strip.
-pub(crate) fn grown_rects(alloc: Global, strips: &[Strip], side: u32) -> Result<Vec<Rect>, AllocError>
+pub(crate) fn grown_rects(
+    alloc: Global,
+    strips: &[Strip],
+    side: u32,
+) -> Result<Vec<Rect>, AllocError>
     requires some { 0 < side }
     requires small { side ≤ 65536 }
     requires banded { Banded strips.now }

@@ -1,6 +1,5 @@
-use Rattle.std.proofs.Common.{rules, ap, sym, ◌∙◌, arith, w32, FitsSigned, drop, take, to_z, of_z, ◌+◌, ◌≡◌, refl}
-use Rattle.std.specs.Prelude.{ℤ}
-use Rattle.std.proofs.lemmas.Int.{ints, to_z-of_z, by_lt_z}
+use Rattle.std.proofs.Common.{rules, ◌∙◌, arith, w32, FitsSigned, to_z, refl}
+use Rattle.std.proofs.lemmas.Int.{ints, to_z-of_z}
 use Rattle.mask_region.proofs.Joins.{join_start, join_more, join_end, split_further}
 use Rattle.mask_region.proofs.bands.join.Goals as goal
 

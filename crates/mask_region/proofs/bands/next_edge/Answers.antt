@@ -1,5 +1,5 @@
-use Rattle.std.proofs.Common.{rules, ap, sym, ◌∙◌, arith, w32, FitsSigned}
-use Rattle.std.proofs.lemmas.Int.{ints, to_z-of_z, by_lt_z}
+use Rattle.std.proofs.Common.{rules, arith, w32, FitsSigned}
+use Rattle.std.proofs.lemmas.Int.{ints, to_z-of_z}
 use Rattle.mask_region.proofs.Banding.{strip_at, edge_at_before, edge_at_inside}
 use Rattle.mask_region.proofs.bands.next_edge.Goals as goal
 

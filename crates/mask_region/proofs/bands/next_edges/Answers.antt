@@ -1,5 +1,5 @@
-use Rattle.std.proofs.Common.{rules, ap, sym, ◌∙◌, arith, w32, FitsSigned}
-use Rattle.std.proofs.lemmas.Int.{ints, to_z-of_z, by_lt_z}
+use Rattle.std.proofs.Common.{rules, arith, w32, FitsSigned}
+use Rattle.std.proofs.lemmas.Int.{ints, to_z-of_z}
 use Rattle.mask_region.proofs.Banding.{edge_less}
 use Rattle.mask_region.proofs.bands.next_edges.Goals as goal
 

@@ -1,5 +1,5 @@
-use Rattle.std.proofs.Common.{rules, ap, sym, ◌∙◌, arith, w32, FitsSigned, drop, ◌+◌, ◌≡◌}
-use Rattle.std.proofs.lemmas.Int.{ints, to_z-of_z, by_lt_z}
+use Rattle.std.proofs.Common.{arith, w32, FitsSigned}
+use Rattle.std.proofs.lemmas.Int.{ints, to_z-of_z}
 use Rattle.mask_region.proofs.Banding.{ahead_from}
 use Rattle.mask_region.proofs.bands.pass.Goals as goal
 

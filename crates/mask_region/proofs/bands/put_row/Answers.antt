@@ -1,5 +1,5 @@
-use Rattle.std.proofs.Common.{rules, ap, sym, ◌∙◌, arith, w32, FitsSigned, drop, ◌+◌, ◌≡◌, refl}
-use Rattle.std.proofs.lemmas.Int.{ints, to_z-of_z, by_lt_z}
+use Rattle.std.proofs.Common.{rules, arith, w32, FitsSigned, ◌+◌, refl}
+use Rattle.std.proofs.lemmas.Int.{ints, to_z-of_z}
 use Rattle.mask_region.specs.Rows.{end_at}
 use Rattle.mask_region.proofs.Putting.{put_more, put_passed}
 use Rattle.mask_region.proofs.bands.put_row.Goals as goal

@@ -1,5 +1,5 @@
-use Rattle.std.proofs.Common.{rules, ap, sym, ◌∙◌, arith, w32, FitsSigned, drop, ◌+◌, ◌≡◌, refl}
-use Rattle.std.proofs.lemmas.Int.{ints, to_z-of_z, by_lt_z}
+use Rattle.std.proofs.Common.{rules, arith, w32, FitsSigned, drop, refl}
+use Rattle.std.proofs.lemmas.Int.{ints, to_z-of_z}
 use Rattle.mask_region.proofs.Banding.{strip_at, banded-drop, row_start, row_step, row_above, row_last}
 use Rattle.mask_region.proofs.bands.read_row.Goals as goal
 

@@ -1,4 +1,4 @@
-use Rattle.std.proofs.Common.{rules, arith, w32, FitsSigned}
+use Rattle.std.proofs.Common.{rules, w32, FitsSigned}
 use Rattle.std.proofs.lemmas.Int.{to_z-of_z}
 use Rattle.mask_region.proofs.Rows.{joined_more}
 use Rattle.mask_region.proofs.ends.join_rows.Goals as goal

@@ -1,4 +1,4 @@
-use Rattle.std.proofs.Common.{rules, arith, ap, w32, of_z}
+use Rattle.std.proofs.Common.{arith, ap, w32, of_z}
 use Rattle.std.proofs.lemmas.Int.{ints, by_lt_z}
 use Rattle.std.specs.Prelude.{◌≡◌, ℤ, ◌≤ℤ◌}
 use Rattle.mask_region.specs.Rows.{end_at}
@@ -17,8 +17,8 @@ returns-else-k-ends c =
     past_none c.args.ends.now c.args.k c.args.x c.requires.in_range
     (λ h. elim c.else-k-ends.branch [
       | else-k-ends-via-then-k-ends+else-ends-k w ↦
-        let ahead : c.args.x ≤ℤ end_at c.args.ends.now c.args.k = c.requires.ahead h in
-        by_lt_z c.args.x (end_at c.args.ends.now c.args.k) (λ up. up) (λ down. absurd (w.if-ends-k.false (same_bits (end_at c.args.ends.now c.args.k) c.args.x (omega (arith, ints)))))
+          let ahead : c.args.x ≤ℤ end_at c.args.ends.now c.args.k = c.requires.ahead h in
+          by_lt_z c.args.x (end_at c.args.ends.now c.args.k) (λ up. up) (λ down. absurd (w.if-ends-k.false (same_bits (end_at c.args.ends.now c.args.k) c.args.x (omega (arith, ints)))))
       | else-k-ends-via-else-k-ends w ↦ absurd (omega arith)
     ])
     c.requires.before

@@ -1,4 +1,4 @@
-use Rattle.std.proofs.Common.{rules, ◌∙◌, arith, w32, FitsSigned}
+use Rattle.std.proofs.Common.{◌∙◌, w32, FitsSigned}
 use Rattle.std.proofs.lemmas.Int.{to_z-of_z}
 use Rattle.mask_region.proofs.Rows.{turned_more, turned_none, odd_other, odd_same}
 use Rattle.mask_region.proofs.ends.turn.Goals as goal

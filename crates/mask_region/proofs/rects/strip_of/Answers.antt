@@ -1,4 +1,4 @@
-use Rattle.std.proofs.Common.{rules, arith}
+use Rattle.std.proofs.Common.{arith}
 use Rattle.std.proofs.lemmas.Int.{ints}
 use Rattle.plane_geom.specs.declared.shapes.Rect.{Rect}
 use Rattle.std.specs.Prelude.{◌≡◌, ◌&&◌, ℤ}

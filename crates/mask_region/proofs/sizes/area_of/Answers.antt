@@ -1,6 +1,4 @@
-use Rattle.std.proofs.Common.{◌≡◌, ◌+◌, ◌∙◌, ap, sym, take, arith, rules}
-use Rattle.plane_geom.specs.Cells.{count_cells}
-use Rattle.std.proofs.lemmas.List.{take_all}
+use Rattle.std.proofs.Common.{◌+◌, take, arith}
 use Rattle.mask_region.specs.Strips.{is_in}
 use Rattle.mask_region.proofs.Areas.{area_none, area_more, count_cells_most, strip_of_all}
 use Rattle.mask_region.proofs.sizes.area_of.Goals as goal

@@ -1,4 +1,3 @@
-use Rattle.std.proofs.Common.{◌≡◌, refl, rules, arith}
 use Rattle.mask_region.proofs.Areas.{strip_of_all}
 use Rattle.mask_region.proofs.Growing.{grown_start, grown_more, grown_all}
 use Rattle.mask_region.proofs.sizes.grown_rects.Goals as goal

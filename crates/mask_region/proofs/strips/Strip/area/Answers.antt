@@ -1,4 +1,4 @@
-use Rattle.std.proofs.Common.{rules, arith}
+use Rattle.std.proofs.Common.{arith}
 use Rattle.std.proofs.lemmas.Int.{ints}
 use Rattle.mask_region.proofs.Areas.{area_one}
 use Rattle.mask_region.proofs.strips.Strip.area.Goals as goal

@@ -1,4 +1,4 @@
-use Rattle.std.proofs.Common.{rules, arith}
+use Rattle.std.proofs.Common.{arith}
 use Rattle.std.proofs.lemmas.Int.{ints}
 use Rattle.mask_region.proofs.Growing.{grown_cells}
 use Rattle.mask_region.proofs.strips.Strip.grown.Goals as goal

@@ -1,0 +1,9 @@
+pub mod Areas
+pub mod Banding
+pub mod Growing
+pub mod Joins
+pub mod Putting
+pub mod Rows
+pub mod Searching
+pub mod Within
+pub mod Worked

@@ -1,0 +1,4 @@
+pub mod Joins
+pub mod Rows
+pub mod Strips
+pub mod Sweeping

@@ -1,0 +1,120 @@
+ghost use Rattle.std.specs.Prelude.{◌≡◌, ◌^◌, ◌<◌, ◌≤◌, ℤ, [], not, ◌&&◌, ◌||◌, IfOk};
+ghost use Rattle.std.specs.List.{All};
+ghost use Rattle.plane_geom.specs.Bounds.{IsRectWithin};
+ghost use Rattle.plane_geom.specs.Cells.{is_in_rects, is_met, count_cells};
+ghost use Rattle.mask_region.specs.Joins.{joined};
+ghost use Rattle.mask_region.specs.Strips.{is_in, AreStripsWithin, Banded};
+
+use crate::bands::join;
+use crate::ends::Joining;
+use crate::rects::strips_of;
+use crate::sizes::{area_of, grown_rects, has_cell};
+use crate::strips::Strip;
+use plane_geom::{Point, Rect};
+use std::alloc::{AllocError, Global};
+use std::marker::Model;
+
+/// A set of cells with both coordinates from -33,554,432 to 33,554,431. Contracts see it as its list of strips, of
+/// which `is_in` says the cells. The strips are banded: none is empty, no two share a cell, and they come by `y0` and
+/// then by `x0`.
+#[derive(Debug, Drop)]
+pub struct Region {
+    strips: Vec<Strip>,
+}
+
+impl Model for Region {
+    ghost use Rattle.std.specs.Prelude.{List};
+    ghost use Rattle.mask_region.specs.declared.strips.Strip.{Strip};
+    ghost use Rattle.mask_region.specs.Strips.{Banded};
+
+    ghost Value = { List Strip };
+
+    ghost view = { λ r. r.strips.items };
+
+    ghost invariant = { λ r. Banded r.strips.items };
+}
+
+impl Region {
+    /// The region with no cell.
+    pub fn empty(alloc: Global) -> Region
+        ensures { result ≡ [] }
+    {
+        Region {
+            strips: Vec::new(alloc),
+        }
+    }
+
+    /// The cells of all rectangles, whose coordinates are at most 33,554,432 from 0.
+    pub fn of_rects(alloc: Global, rects: &[Rect]) -> Result<Region, AllocError>
+        requires { All (IsRectWithin (2 ^ 25)) rects.now }
+        ensures { IfOk result (λ r. (x y : ℤ) → is_in r x y ≡ is_in_rects rects.now x y) }
+    {
+        Ok(Region {
+            strips: strips_of(alloc, rects)?,
+        })
+    }
+
+    /// The cells that are in this region, in the other one, or in both.
+    pub fn union(&self, alloc: Global, other: &Region) -> Result<Region, AllocError>
+        ensures { IfOk result (λ r. (x y : ℤ) → is_in r x y ≡ (is_in self.now x y || is_in other.now x y)) }
+    {
+        self.joined(alloc, Joining::Union, other)
+    }
+
+    /// The cells that are in both regions.
+    pub fn meet(&self, alloc: Global, other: &Region) -> Result<Region, AllocError>
+        ensures { IfOk result (λ r. (x y : ℤ) → is_in r x y ≡ (is_in self.now x y && is_in other.now x y)) }
+    {
+        self.joined(alloc, Joining::Meet, other)
+    }
+
+    /// The cells that are in this region and not in the other one.
+    pub fn minus(&self, alloc: Global, other: &Region) -> Result<Region, AllocError>
+        ensures { IfOk result (λ r. (x y : ℤ) → is_in r x y ≡ (is_in self.now x y && not (is_in other.now x y))) }
+    {
+        self.joined(alloc, Joining::Minus, other)
+    }
+
+    /// The placements of a square of `side` cells on a side that meet the region. A placement is named by the lower
+    /// left cell of the square. The side is from 1 to 65,536, and no coordinate of the region is over 16,777,216 from 0.
+    pub fn grow(&self, alloc: Global, side: u32) -> Result<Region, AllocError>
+        requires some { 0 < side }
+        requires small { side ≤ 65536 }
+        requires within { AreStripsWithin (2 ^ 24) self.now }
+        ensures { IfOk result (λ r. (x y : ℤ) → is_in r x y ≡ is_met side (is_in self.now) x y) }
+    {
+        let rects = grown_rects(alloc, self.strips.as_slice(), side)?;
+        Region::of_rects(alloc, rects.as_slice())
+    }
+
+    /// Whether the cell is in the region.
+    pub fn has(&self, cell: Point) -> bool
+        ensures { result ≡ is_in self.now cell.x cell.y }
+    {
+        has_cell(self.strips.as_slice(), cell)
+    }
+
+    /// How many cells the region has.
+    pub fn area(&self) -> u64
+        ensures { result ≡ count_cells (is_in self.now) }
+    {
+        area_of(self.strips.as_slice())
+    }
+
+    /// The strips of the region: none is empty, no two share a cell, and they come by `y0` and then by `x0`. Two of
+    /// them have the same rows or no row in common, and those with the same rows don't touch.
+    pub fn strips(&self) -> &[Strip]
+        ensures same { result.now ≡ self.now }
+        ensures banded { Banded self.now }
+    {
+        self.strips.as_slice()
+    }
+
+    /// The joined set.
+    fn joined(&self, alloc: Global, op: Joining, other: &Region) -> Result<Region, AllocError>
+        ensures { IfOk result (λ r. (x y : ℤ) → is_in r x y ≡ joined op (is_in self.now x y) (is_in other.now x y)) }
+    {
+        let strips = join(alloc, op, self.strips.as_slice(), other.strips.as_slice())?;
+        Ok(Region { strips })
+    }
+}

@@ -1,0 +1,4 @@
+pub mod Chains
+pub mod Forests
+pub mod Numbers
+pub mod Pairs

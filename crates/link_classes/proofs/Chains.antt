@@ -37,5 +37,18 @@ kept_on : {A B : Type 0} (touch : A → A → Bool) (value : A → B) → ((a b 
 kept_on touch value kept a b [] leads = λ i. value (leads i)
 kept_on touch value kept a b (c ∷ chain) leads = kept_next touch value kept a c leads.0 ∙ kept_on touch value kept c b chain leads.1
 
+-- What is the same of things that touch is the same of linked things.
 pub linked_kept : {A B : Type 0} (touch : A → A → Bool) (value : A → B) → ((a b : A) → touch a b ≡ true → value a ≡ value b) → (a b : A) → Linked touch a b → value a ≡ value b
 linked_kept touch value kept a b linked = kept_on touch value kept a b linked.chain linked.leads
+
+next_map : {A B : Type 0} (touch : A → A → Bool) (link : B → B → Bool) (f : A → B) → ((a b : A) → touch a b ≡ true → Linked link (f a) (f b)) → (a b : A) → IsNext touch a b → Linked link (f a) (f b)
+next_map touch link f kept a b (inl is) = kept a b is
+next_map touch link f kept a b (inr is) = linked_sym link (f b) (f a) (kept b a is)
+
+chain_map : {A B : Type 0} (touch : A → A → Bool) (link : B → B → Bool) (f : A → B) → ((a b : A) → touch a b ≡ true → Linked link (f a) (f b)) → (a b : A) (chain : List A) → IsChain touch a chain b → Linked link (f a) (f b)
+chain_map touch link f kept a b [] leads = subst (λ x. Linked link (f a) (f x)) leads (linked_refl link (f a))
+chain_map touch link f kept a b (c ∷ chain) leads = linked_trans link (f a) (f c) (f b) (next_map touch link f kept a c leads.0) (chain_map touch link f kept c b chain leads.1)
+
+-- Where what touches in one relation is linked in the other, so is what is linked.
+pub linked_map : {A B : Type 0} (touch : A → A → Bool) (link : B → B → Bool) (f : A → B) → ((a b : A) → touch a b ≡ true → Linked link (f a) (f b)) → (a b : A) → Linked touch a b → Linked link (f a) (f b)
+linked_map touch link f kept a b linked = chain_map touch link f kept a b linked.chain linked.leads

@@ -2,3 +2,5 @@ pub mod Chains
 pub mod Forests
 pub mod Numbers
 pub mod Pairs
+pub mod UniqueNumbers
+pub mod OtherTouch

@@ -9,8 +9,10 @@
 #![tactic(auto)]
 
 mod forest;
+mod laws;
 mod partition;
 
+pub use laws::one_numbering;
 pub use partition::{Classes, classes_of};
 
 #[cfg(test)]

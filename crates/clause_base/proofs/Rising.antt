@@ -1,14 +1,13 @@
 -- Rising lists of literals: how they are made, and how a literal is looked for in one.
-use Rattle.std.proofs.Common.{◌≡◌, ℕ, zero, suc, ◌+◌, ◌<◌, ◌≤◌, ℤ, ◌<ℤ◌, neg_ℤ, Bool, true, false, IsTrue, List, [], ◌∷◌, length, get_or, slice_index_or, Result, Ok, Err, is_ok, ◌⊎◌, ◌↔◌, IsTrue, inl, inr, refl, sym, ap, ◌∙◌, subst, arith}
-use Rattle.std.specs.List.{All, AllByRecursion, Contains, HoldsAt, dedup}
+use Rattle.std.proofs.Common.{◌≡◌, ℕ, zero, suc, ◌+◌, ◌<◌, ◌≤◌, ℤ, ◌<ℤ◌, neg_ℤ, Bool, true, false, IsTrue, List, [], ◌∷◌, length, get_or, slice_index_or, Result, Ok, Err, is_ok, ◌↔◌, IsTrue, inl, inr, refl, sym, ap, ◌∙◌, subst, arith}
+use Rattle.std.specs.List.{AllByRecursion, Contains, dedup}
 use Rattle.std.specs.List.Sorted.{IsStrictlySortedBy, IsSorted, IsPermutation, IsBinarySearchResult, IsSearchInRange, IsSortedBy}
 use Rattle.std.specs.Ordering.{int_cmp, int_eq, is_lt}
-use Rattle.std.specs.declared.cmp.Ordering.{Ordering}
 use Rattle.std.specs.declared.cmp.Ordering.TheVariants.{Less, Equal, Greater}
 use Rattle.std.proofs.lemmas.Cmp.{int_cmp_total, int_eq_equiv, int_ranked}
 use Rattle.std.proofs.lemmas.Int.{ints}
 use Rattle.std.proofs.lemmas.Bool.{cases_lt}
-use Rattle.std.proofs.lemmas.Bool.Decides.{Decides-int_eq, nat_tests}
+use Rattle.std.proofs.lemmas.Bool.Decides.{nat_tests}
 use Rattle.std.proofs.lemmas.List.{get_or_default}
 use Rattle.std.proofs.lemmas.List.Elements.{Contains-get_or, All-contains}
 use Rattle.std.proofs.lemmas.List.Sorted.{Contains-permutation, searchable_from_sorted, IsPermutation-sym}
@@ -40,10 +39,10 @@ pub same_from : (clause lits sorted kept : List ℤ) → lits ≡ clause → IsP
 same_from clause lits sorted kept copy moved is = record {
   there = λ k d lt. subst (λ xs. Contains xs (get_or clause k d)) (sym is)
       (Contains-dedup int_eq_equiv equal_is sorted (get_or clause k d)
-          (Contains-permutation lits sorted (get_or clause k d) moved (subst (λ xs. Contains xs (get_or clause k d)) (sym copy) (Contains-get_or clause k d lt))));
+      (Contains-permutation lits sorted (get_or clause k d) moved (subst (λ xs. Contains xs (get_or clause k d)) (sym copy) (Contains-get_or clause k d lt))));
   back = λ k d lt. subst (λ xs. Contains xs (get_or kept k d)) copy
       (Contains-permutation sorted lits (get_or kept k d) (IsPermutation-sym lits sorted moved)
-          (Contains-from_dedup int_eq sorted (get_or kept k d) (subst (λ xs. Contains xs (get_or kept k d)) is (Contains-get_or kept k d lt))));
+      (Contains-from_dedup int_eq sorted (get_or kept k d) (subst (λ xs. Contains xs (get_or kept k d)) is (Contains-get_or kept k d lt))));
 }
 
 -- ---- looked for

@@ -1,14 +1,14 @@
 -- What a clause that teaches is not: an earlier clause, or one with an earlier clause inside.
-use Rattle.std.proofs.Common.{◌≡◌, ◌≢◌, ℕ, ◌<◌, ◌⊎◌, inl, inr, ℤ, pos, neg_ℤ, Bool, true, false, List, length, get_or, refl, sym, ap, ◌∙◌, subst, arith}
+use Rattle.std.proofs.Common.{◌≡◌, ◌≢◌, ℕ, ◌<◌, ◌⊎◌, inl, inr, ℤ, pos, neg_ℤ, Bool, true, false, List, length, get_or, refl, ◌∙◌, subst, arith}
 use Rattle.std.specs.List.{All, Contains, list_any}
 use Rattle.std.specs.Ordering.{int_eq}
 use Rattle.std.proofs.Math.IntN.{neg_ℤ-neg_ℤ}
 use Rattle.std.proofs.lemmas.Int.{ints}
 use Rattle.std.proofs.lemmas.Bool.Decides.{nat_tests}
-use Rattle.std.proofs.lemmas.List.Elements.{All-contains, Contains-get_or}
+use Rattle.std.proofs.lemmas.List.Elements.{All-contains}
 use Rattle.std.proofs.lemmas.List.Folds.{Any-from_list_any, list_any_at}
-use Rattle.clause_base.specs.Novelty.{IsApart, HaveSame, IsNew}
-use Rattle.clause_base.specs.Teaching.{AllButNegated, IsConsistent, IsPropagated, IsClosed, Teaches}
+use Rattle.clause_base.specs.Novelty.{IsApart, IsNew}
+use Rattle.clause_base.specs.Teaching.{AllButNegated, IsPropagated, Teaches}
 
 by_test : {P : Type 0} (b : Bool) → (b ≡ true → P) → (b ≡ false → P) → P
 by_test true t f = t refl
@@ -36,6 +36,7 @@ by_place lit xs inside outside = by_test (list_any (λ m. int_eq m lit) xs)
   where
     found : (m : ℤ) (k : ℕ) → get_or xs k m ≡ m → int_eq m lit ≡ true → get_or xs k lit ≡ lit
     found m k at pass = subst (λ z. get_or xs k z ≡ z) (same_lit m lit pass) at
+
     clash : (k : ℕ) (d : ℤ) → k < length xs → list_any (λ m. int_eq m lit) xs ≡ false → get_or xs k d ≡ lit → ⊥
     clash k d lt is same = no_both (list_any_at (λ (m : ℤ). int_eq m lit) xs k d lt (same_test (get_or xs k d) lit same)) is
 
@@ -59,6 +60,7 @@ module _ (earlier : List (List ℤ)) (clause : List ℤ) (h : Teaches earlier cl
   is_apart some = record { apart = λ l has back. clash l (nonzero l has) (known l has) (known (neg_ℤ l) back) } where
     nonzero : (l : ℤ) → Contains clause l → l ≢ pos 0
     nonzero l has = All-contains (λ l. l ≢ pos 0) clause l some has
+
     clash : (l : ℤ) → l ≢ pos 0 → (l ≡ h.lit) ⊎ (h.set (neg_ℤ l) ≡ true) → (neg_ℤ l ≡ h.lit) ⊎ (h.set (neg_ℤ (neg_ℤ l)) ≡ true) → ⊥
     clash l some (inl here) (inl back) = grind (arith, ints, some, here, back)
     clash l some (inl here) (inr back) = no_both (subst (λ z. h.set z ≡ true) (neg_ℤ-neg_ℤ l ∙ here) back) h.open_

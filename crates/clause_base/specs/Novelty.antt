@@ -1,5 +1,5 @@
 -- When a clause says something that no earlier clause says.
-use Rattle.std.specs.Prelude.{◌≡◌, ℤ, neg_ℤ, Bool, true, List, All, Contains}
+use Rattle.std.specs.Prelude.{ℤ, neg_ℤ, List, All, Contains}
 
 -- no literal stands beside its negation
 pub record IsApart (clause : List ℤ) : Type 0 where

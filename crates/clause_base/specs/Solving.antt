@@ -1,5 +1,5 @@
 -- Which literals values make true, and which clauses and formulas they solve.
-use Rattle.std.specs.Prelude.{◌≡◌, ℕ, zero, suc, ℤ, pos, negsuc, Bool, true, false, not, List, slice_index_or, Any, All}
+use Rattle.std.specs.Prelude.{◌≡◌, zero, suc, ℤ, pos, negsuc, Bool, true, false, not, List, slice_index_or, Any, All}
 
 -- The variable n has the value n - 1 of the list, counted from 0.
 abbrev pub is_true_under : List Bool → ℤ → Bool

@@ -1,5 +1,6 @@
 ghost use Rattle.std.specs.Prelude.{◌≡◌, ◌↔◌, IsTrue, IfOk, IfSome, IfNone};
 ghost use Rattle.clause_base.specs.Literals.{IsRising};
+ghost use Rattle.clause_base.specs.Formulas.{IsOver};
 ghost use Rattle.clause_base.specs.Novelty.{IsApart, HaveSame};
 
 use crate::literals::Lit;
@@ -21,6 +22,9 @@ impl Model for Clause {
 }
 
 impl Clause {
+    ghost use Rattle.std.specs.Prelude.{◌≡◌, ◌↔◌, IsTrue, IfOk};
+    ghost use Rattle.clause_base.specs.Formulas.{IsOver};
+
     /// The clause of these literals, in their order. It fails only where no memory is found.
     pub fn new(alloc: Global, lits: &[Lit]) -> Result<Clause, AllocError>
         ensures { IfOk result (λ clause. clause ≡ lits.now) }
@@ -30,12 +34,25 @@ impl Clause {
         })
     }
 
+    /// Whether no variable of the clause is over `vars`.
+    pub fn is_over(&self, vars: u32) -> bool
+        ensures { IsTrue result ↔ IsOver vars self.now }
+    {
+        are_over(self.lits.as_slice(), vars)
+    }
+
     /// The literals.
     pub fn as_slice(&self) -> &[Lit]
         ensures { result.now ≡ self.now }
     {
         self.lits.as_slice()
     }
+}
+
+fn are_over(lits: &[Lit], vars: u32) -> bool
+    ensures { IsTrue result ↔ IsOver vars lits.now }
+{
+    lits.iter().all(|lit| lit.variable() <= vars)
 }
 
 /// The literals of the clause in rising order, each once. It fails only where no memory is found.

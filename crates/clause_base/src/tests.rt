@@ -55,9 +55,14 @@ fn clauses_keep_their_literals(rt: HostRuntime) -> Result<(), Fail> {
 #[test]
 fn values_solve_a_formula(rt: HostRuntime) -> Result<(), Fail> {
     let alloc = rt.alloc();
+    let first = Clause::new(alloc, lits(alloc, &[1, 2])?.as_slice())?;
+    let second = Clause::new(alloc, lits(alloc, &[1, -2])?.as_slice())?;
+    if !first.is_over(2) || !second.is_over(2) || second.is_over(1) {
+        return Err(Fail::from("two variables"));
+    }
     let mut clauses = Vec::new(alloc);
-    clauses.push(Clause::new(alloc, lits(alloc, &[1, 2])?.as_slice())?)?;
-    clauses.push(Clause::new(alloc, lits(alloc, &[1, -2])?.as_slice())?)?;
+    clauses.push(first)?;
+    clauses.push(second)?;
     let formula = Formula::new(2, clauses);
     let rows = [
         ([true, true], true),

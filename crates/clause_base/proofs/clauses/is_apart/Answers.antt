@@ -1,4 +1,4 @@
-use Rattle.std.proofs.Common.{◌≡◌, sym, ◌∙◌}
+use Rattle.std.proofs.Common.{sym, ◌∙◌}
 use Rattle.clause_base.proofs.Rising.{a_place, no_place, beside, apart_more, apart_at, is_false, is_true}
 use Rattle.clause_base.proofs.clauses.is_apart.Goals as goal
 

@@ -1,4 +1,4 @@
-use Rattle.std.proofs.Common.{◌≡◌, ℕ, ◌<◌, ℤ, pos, neg_ℤ, slice_index_or}
+use Rattle.std.proofs.Common.{ℕ, ◌<◌, ℤ, neg_ℤ, slice_index_or}
 use Rattle.std.specs.List.{Contains}
 use Rattle.clause_base.proofs.clauses.is_apart.Given as goal
 

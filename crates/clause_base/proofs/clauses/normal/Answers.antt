@@ -1,4 +1,4 @@
-use Rattle.std.proofs.Common.{◌≡◌, subst, sym}
+use Rattle.std.proofs.Common.{subst, sym}
 use Rattle.clause_base.specs.Novelty.{IsApart}
 use Rattle.clause_base.proofs.Rising.{apart_same, same_turned, told, not_told}
 use Rattle.clause_base.proofs.clauses.normal.Goals as goal

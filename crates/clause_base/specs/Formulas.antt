@@ -1,0 +1,17 @@
+-- Formulas: a number of variables, and clauses over them.
+use Rattle.std.specs.Prelude.{ℕ, ◌<◌, ◌≤◌, ◌^◌, ℤ, nat_abs, List, length, All}
+
+-- a formula as numbers and lists
+pub record Clauses : Type 0 where
+  pub vars : ℕ
+  pub clauses : List (List ℤ)
+
+-- the clause has variables from 1 to vars alone
+abbrev pub IsOver : ℕ → List ℤ → Type 0
+IsOver vars clause = All (λ l. nat_abs l ≤ vars) clause
+
+-- what a formula keeps
+pub record IsFormula (vars : ℕ) (clauses : List (List ℤ)) : Type 0 where
+  pub few_vars : vars < 2 ^ 31
+  pub few_clauses : length clauses < 2 ^ 60
+  pub over : All (IsOver vars) clauses

@@ -1,0 +1,20 @@
+-- Literals: a variable, a number from 1, or its negation, the number below 0.
+use Rattle.std.specs.Prelude.{ℕ, ◌<◌, ◌^◌, ℤ, ◌<ℤ◌, nat_abs, Bool, ◌&&◌, nat_lt, List, length, slice_index_or}
+use Rattle.std.specs.Ordering.{int_eq}
+use Rattle.std.specs.List.{list_any}
+
+-- a number other than 0 whose size fits 31 bits
+abbrev pub is_literal : ℤ → Bool
+is_literal z = nat_lt 0 (nat_abs z) && nat_lt (nat_abs z) (2 ^ 31)
+
+pub record IsLiteral (z : ℤ) : Type 0 where
+  pub some : 0 < nat_abs z
+  pub small : nat_abs z < 2 ^ 31
+
+-- the literals of a clause, as a set
+abbrev pub is_in : List ℤ → ℤ → Bool
+is_in clause l = list_any (λ m. int_eq m l) clause
+
+-- Each literal is below those behind it.
+pub record IsRising (clause : List ℤ) : Type 0 where
+  pub rising : (j k : ℕ) (d : ℤ) → j < k → k < length clause → slice_index_or clause j d <ℤ slice_index_or clause k d

@@ -1,0 +1,16 @@
+-- When a clause says something that no earlier clause says.
+use Rattle.std.specs.Prelude.{ℤ, neg_ℤ, List, All, Contains}
+
+-- no literal stands beside its negation
+pub record IsApart (clause : List ℤ) : Type 0 where
+  pub apart : (l : ℤ) → Contains clause l → Contains clause (neg_ℤ l) → ⊥
+
+-- two clauses list the same literals
+pub record HaveSame (a b : List ℤ) : Type 0 where
+  pub there : All (Contains b) a
+  pub back : All (Contains a) b
+
+-- The clause has no literal together with its negation, and no earlier clause has the same set of literals.
+pub record IsNew (earlier : List (List ℤ)) (clause : List ℤ) : Type 0 where
+  pub apart : IsApart clause
+  pub fresh : All (λ other. HaveSame other clause → ⊥) earlier

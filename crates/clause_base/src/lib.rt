@@ -1,0 +1,22 @@
+//! Clauses and formulas, and what it means to solve them.
+//!
+//! A literal is a variable or its negation, a clause is a list of literals of which one must be true, and a formula is
+//! a list of clauses. The crate promises that `solves` tells exactly whether values make each clause true, and that
+//! `distinct` and `normal` keep the set of a clause's literals. Its definitions say when a clause is new, and when it
+//! teaches unit propagation something new; its laws tie these together.
+//!
+//! The arena of clauses, the checker of derivations, the solver and the encoding of tests stand on it.
+#![tactic(auto)]
+
+mod clauses;
+mod formulas;
+mod laws;
+mod literals;
+
+pub use clauses::{Clause, distinct, normal};
+pub use formulas::{Formula, solves};
+pub use laws::{teaching_is_new, teaching_is_no_superset};
+pub use literals::Lit;
+
+#[cfg(test)]
+mod tests;

@@ -1,0 +1,6 @@
+pub mod Chains
+pub mod Forests
+pub mod Numbers
+pub mod Pairs
+pub mod UniqueNumbers
+pub mod OtherTouch

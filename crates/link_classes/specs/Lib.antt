@@ -1,0 +1,4 @@
+pub mod Linked
+pub mod Numbering
+pub mod Classes
+pub mod Forest

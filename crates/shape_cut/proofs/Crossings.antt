@@ -1,17 +1,14 @@
 -- The edges of a polygon that a row crosses.
-use Rattle.std.proofs.Common.{◌≡◌, ℕ, ◌+◌, ◌<◌, ◌≤◌, Bool, true, false, cond, not, ◌&&◌, ◌||◌, List, [], ◌∷◌, ◌++◌, length, drop, refl, sym, ap, ◌∙◌, subst, inl, inr, arith}
-use Rattle.std.specs.Prelude.{ℤ, pos, ◌≤ℤ◌, ◌<ℤ◌, int_lt, count_by}
-use Rattle.std.specs.Int.{int_min, int_max}
-use Rattle.std.specs.Ordering.{int_eq}
+use Rattle.std.proofs.Common.{◌≡◌, ℕ, ◌+◌, ◌<◌, ◌≤◌, Bool, true, false, cond, not, ◌&&◌, List, [], ◌∷◌, ◌++◌, length, drop, refl, sym, ap, ◌∙◌, subst, arith}
+use Rattle.std.specs.Prelude.{ℤ, pos, ◌≤ℤ◌, int_lt, count_by}
+use Rattle.std.specs.Int.{int_min}
 use Rattle.std.specs.List.{All, AllByRecursion, list_all}
-use Rattle.std.proofs.lemmas.Bool.{false≢true}
 use Rattle.std.proofs.lemmas.Int.{ints, clamps, by_lt_z}
 use Rattle.std.proofs.lemmas.List.{drop_more, drop_all, length_push}
 use Rattle.std.proofs.lemmas.List.Elements.{All-nil, All-push, All-get_or}
 use Rattle.std.proofs.lemmas.List.Sums.{sum_by_push}
 use Rattle.plane_geom.specs.declared.shapes.Point.{Point}
 use Rattle.plane_geom.specs.declared.shapes.Rect.{Rect}
-use Rattle.plane_geom.specs.Cells.{is_between}
 use Rattle.plane_geom.specs.Ends.{is_odd, flips}
 use Rattle.plane_geom.specs.Covering.{edges_from, outline, is_vertical, is_along, spans, is_crossed, polygon_covers, HoldsAround, IsOutline}
 use Rattle.plane_geom.proofs.Counting.{count_cons}
@@ -109,9 +106,9 @@ crossings_start points y first ends some is none =
       held = λ r h. All-get_or (HoldsAround r (pos 0)) points 0 no_point some h;
       first_held = λ r h. All-get_or (HoldsAround r (pos 0)) points 0 no_point some h;
     })
-    where
-      zero_add : (n : ℕ) → 0 + n ≡ n
-      zero_add n = omega arith
+  where
+    zero_add : (n : ℕ) → 0 + n ≡ n
+    zero_add n = omega arith
 
 pub crossings_more : (points : List Point) (k : ℕ) (first : Point) (y : ℤ) (from : Point) (ends made : List ℤ) → k < length points → made ≡ crossed_by from (point_at points k) y ends
     → AreCrossingsBut points first (drop k points) y from ends → AreCrossingsBut points first (drop (k + 1) points) y (point_at points k) made
@@ -139,9 +136,9 @@ crossings_end points k first y from ends made le e h =
       across = λ r all. rw e (across_step (is_upright y (from, first)) r ends from (h.held r all) (h.across r all));
       low = λ r all some. low_step (is_upright y (from, first)) r y ends from first (λ up. spans_low y from first (and_right (is_vertical (from, first)) (spans y (from, first)) up)) (h.held r all) (h.first_held r all) (h.low r all) (subst (λ l. 0 < length l) e some);
     }
-    where
-      add_zero : (n : ℕ) → n ≡ n + 0
-      add_zero n = omega arith
+  where
+    add_zero : (n : ℕ) → n ≡ n + 0
+    add_zero n = omega arith
 
 -- ---- a closed outline is crossed an even number of times
 

@@ -1,13 +1,12 @@
 -- Every shape with a point has a reach, and so its points are within the reach's bound.
-use Rattle.std.proofs.Common.{◌≡◌, ℕ, zero, suc, ◌<◌, ◌^◌, List, [], ◌∷◌, length, refl, arith}
-use Rattle.std.specs.Prelude.{ℤ, pos, ◌+ℤ◌, ◌-ℤ◌, ◌≤ℤ◌}
-use Rattle.std.specs.Int.{int_min, int_max}
+use Rattle.std.proofs.Common.{ℕ, ◌<◌, ◌^◌, List, [], ◌∷◌, length, arith}
+use Rattle.std.specs.Prelude.{ℤ, pos, ◌≤ℤ◌}
 use Rattle.std.specs.List.{All}
 use Rattle.std.proofs.lemmas.Int.{ints, clamps}
 use Rattle.std.proofs.lemmas.List.Elements.{All-nil, All-cons, All-head, All-tail, All-weaker}
 use Rattle.plane_geom.specs.declared.shapes.Point.{Point}
 use Rattle.plane_geom.specs.declared.shapes.Rect.{Rect}
-use Rattle.plane_geom.specs.Bounds.{IsWithin, IsPointWithin, IsRectWithin}
+use Rattle.plane_geom.specs.Bounds.{IsPointWithin, IsRectWithin}
 use Rattle.plane_geom.specs.Covering.{Figure, polygon, wire, IsRectIn, HoldsAround, IsReach, stretched_to}
 use Rattle.plane_geom.proofs.Reaching.{thickened}
 

@@ -3,3 +3,4 @@ pub mod Hulls
 pub mod Pairing
 pub mod Segments
 pub mod Slabs
+pub mod Worked

@@ -1,15 +1,15 @@
 -- Rectangles between ends, two by two.
 use Rattle.std.proofs.Common.{◌≡◌, ℕ, ◌+◌, ◌<◌, ◌≤◌, Bool, true, false, not, ◌&&◌, ◌||◌, List, [], ◌∷◌, ◌++◌, length, take, refl, sym, ap, ◌∙◌, subst, inl, inr, arith}
 use Rattle.std.specs.Prelude.{ℤ, pos, ◌≤ℤ◌, ◌<ℤ◌}
-use Rattle.std.specs.List.{All, list_any}
+use Rattle.std.specs.List.{All}
 use Rattle.std.specs.Ordering.{int_cmp, is_lt, MatchOrdering}
 use Rattle.std.specs.List.Sorted.{IsSorted}
 use Rattle.std.specs.Cmp.{int_ranks, int_cmp_total}
 use Rattle.std.specs.declared.cmp.Ordering.{Ordering}
 use Rattle.std.specs.declared.cmp.Ordering.TheVariants.{Less, Equal, Greater}
 use Rattle.std.proofs.lemmas.Bool.{cases_lt, false≢true}
-use Rattle.std.proofs.lemmas.Int.{ints, by_lt_z}
-use Rattle.std.proofs.lemmas.List.{take_more, take_all, length-take-le, get_or-take}
+use Rattle.std.proofs.lemmas.Int.{ints}
+use Rattle.std.proofs.lemmas.List.{take_more, length-take-le, get_or-take}
 use Rattle.std.proofs.lemmas.List.Elements.{All-push, All-get_or, All-from_get_or}
 use Rattle.std.proofs.lemmas.List.Folds.{list_any-append}
 use Rattle.std.proofs.lemmas.List.Sorted.{ranks_by, sorted_far}
@@ -31,8 +31,8 @@ pub not_falling : (ends : List ℤ) → IsSorted int_cmp ends → AreNotFalling 
 not_falling ends h =
     record {
       each = λ i k le lt.
-        not_above (int_cmp (x_at ends k) (x_at ends i)) (x_at ends k) (x_at ends i) (int_ranks (x_at ends k) (x_at ends i))
-        (sorted_far (λ x y. is_lt (int_cmp x y)) (ranks_by int_cmp_total (λ (x : ℤ). x)) ends h i k (pos 0) le lt);
+          not_above (int_cmp (x_at ends k) (x_at ends i)) (x_at ends k) (x_at ends i) (int_ranks (x_at ends k) (x_at ends i))
+          (sorted_far (λ x y. is_lt (int_cmp x y)) (ranks_by int_cmp_total (λ (x : ℤ). x)) ends h i k (pos 0) le lt);
     }
 
 -- ---- the steps of the code
@@ -83,27 +83,28 @@ pair_more old ends k y0 y1 rects made t sorted order lt is e h =
       in_range = omega arith;
       even = ap is_odd (two_more k) ∙ odd_more (k + 1) ∙ ap not (odd_more k) ∙ ap (λ b. not (not b)) h.even;
       cells = λ x z.
-        list_any-append (λ r. is_in_rect r x z) rects (it ∷ [])
-        ∙ ap (λ b. b || (is_in_rect it x z || false)) (h.cells x z)
-        ∙ pair_cells (is_in_rects old x z) (flips (take k ends) x) (is_between (x_at ends k) (x_at ends (k + 1)) x) (is_between y0 y1 z)
-        ∙ ap (λ b. is_in_rects old x z || (b && is_between y0 y1 z)) (sym (spans_more ends k x sorted h.even lt));
+          list_any-append (λ r. is_in_rect r x z) rects (it ∷ [])
+          ∙ ap (λ b. b || (is_in_rect it x z || false)) (h.cells x z)
+          ∙ pair_cells (is_in_rects old x z) (flips (take k ends) x) (is_between (x_at ends k) (x_at ends (k + 1)) x) (is_between y0 y1 z)
+          ∙ ap (λ b. is_in_rects old x z || (b && is_between y0 y1 z)) (sym (spans_more ends k x sorted h.even lt));
       formed = λ f. All-push IsRect rects it (h.formed f) (record { across = sorted.each k (k + 1) (omega arith) lt; up = omega (arith, ints) });
       inside = λ r f across low high.
-        let left : IsAcross r (x_at ends k) = All-get_or (IsAcross r) ends k (pos 0) (omega arith) across in
-        let right : IsAcross r (x_at ends (k + 1)) = All-get_or (IsAcross r) ends (k + 1) (pos 0) lt across in
-        All-push (IsRectIn r) rects it (h.inside r f across low high) (record { left = left.left; below = low (omega arith); right = right.right; above = high });
+          let left : IsAcross r (x_at ends k) = All-get_or (IsAcross r) ends k (pos 0) (omega arith) across in
+          let right : IsAcross r (x_at ends (k + 1)) = All-get_or (IsAcross r) ends (k + 1) (pos 0) lt across in
+          All-push (IsRectIn r) rects it (h.inside r f across low high) (record { left = left.left; below = low (omega arith); right = right.right; above = high });
     })
-    where
-      it : Rect
-      it = record { x0 = x_at ends k; y0 = y0; x1 = x_at ends (k + 1); y1 = y1 }
-      two_more : (k : ℕ) → k + 2 ≡ (k + 1) + 1
-      two_more k = omega arith
+  where
+    it : Rect
+    it = record { x0 = x_at ends k; y0 = y0; x1 = x_at ends (k + 1); y1 = y1 }
+
+    two_more : (k : ℕ) → k + 2 ≡ (k + 1) + 1
+    two_more k = omega arith
 
 odd_apart : (n k : ℕ) → is_odd n ≡ false → is_odd k ≡ false → k ≤ n → n ≤ k + 1 → k ≡ n
 odd_apart n k en ek le more = elim (cases_lt k n) [
-    | inl lt ↦ absurd (let e : n ≡ k + 1 = omega arith in false≢true (sym en ∙ ap is_odd e ∙ odd_more k ∙ ap not ek))
-    | inr ge ↦ omega arith
-  ]
+  | inl lt ↦ absurd (let e : n ≡ k + 1 = omega arith in false≢true (sym en ∙ ap is_odd e ∙ odd_more k ∙ ap not ek))
+  | inr ge ↦ omega arith
+]
 
 pub pair_end : (old : List Rect) (ends : List ℤ) (k : ℕ) (y0 y1 : ℤ) (rects : List Rect) → is_odd (length ends) ≡ false → length ends ≤ k + 1 → IsPaired old ends k y0 y1 rects → IsPaired old ends (length ends) y0 y1 rects
 pair_end old ends k y0 y1 rects even le h =

@@ -1,7 +1,6 @@
 -- The widened rectangles of a wire's segments, one by one.
-use Rattle.std.proofs.Common.{◌≡◌, ℕ, ◌+◌, ◌<◌, ◌≤◌, ◌^◌, Bool, true, false, ◌||◌, List, [], ◌∷◌, ◌++◌, length, drop, refl, sym, ap, ◌∙◌, subst, arith}
+use Rattle.std.proofs.Common.{◌≡◌, ℕ, ◌+◌, ◌<◌, ◌≤◌, ◌^◌, Bool, true, false, ◌||◌, List, [], ◌∷◌, ◌++◌, length, drop, refl, sym, ap, ◌∙◌, arith}
 use Rattle.std.specs.Prelude.{ℤ, pos, ◌≤ℤ◌, slice_index_or}
-use Rattle.std.specs.Int.{int_min, int_max}
 use Rattle.std.specs.List.{All, list_any}
 use Rattle.std.proofs.lemmas.Int.{ints, clamps}
 use Rattle.std.proofs.lemmas.List.{drop_more, drop_all}
@@ -11,7 +10,7 @@ use Rattle.plane_geom.specs.declared.shapes.Point.{Point}
 use Rattle.plane_geom.specs.declared.shapes.Rect.{Rect}
 use Rattle.plane_geom.specs.Bounds.{IsPointWithin}
 use Rattle.plane_geom.specs.Cells.{is_in_rect, is_in_rects}
-use Rattle.plane_geom.specs.Covering.{edges_from, segments, widened, wire_covers, IsRect, IsRectIn, HoldsAround}
+use Rattle.plane_geom.specs.Covering.{edges_from, widened, wire_covers, IsRect, IsRectIn, HoldsAround}
 
 abbrev pub no_point : Point
 no_point = record { x = pos 0; y = pos 0 }
@@ -74,10 +73,10 @@ widened_more half path k from rects made lt thick near e h =
     (record {
       near = All-get_or (IsPointWithin (2 ^ 24)) path k no_point lt near;
       cells = λ x y.
-        ap (λ b. b || covered_from half to (drop (k + 1) path) x y) (list_any-append (λ r. is_in_rect r x y) rects (widened half (from, to) ∷ []))
-        ∙ or_shift (is_in_rects rects x y) (is_in_rect (widened half (from, to)) x y) (covered_from half to (drop (k + 1) path) x y)
-        ∙ ap (λ l. is_in_rects rects x y || covered_from half from l x y) (sym (drop_more path k no_point lt))
-        ∙ h.cells x y;
+          ap (λ b. b || covered_from half to (drop (k + 1) path) x y) (list_any-append (λ r. is_in_rect r x y) rects (widened half (from, to) ∷ []))
+          ∙ or_shift (is_in_rects rects x y) (is_in_rect (widened half (from, to)) x y) (covered_from half to (drop (k + 1) path) x y)
+          ∙ ap (λ l. is_in_rects rects x y || covered_from half from l x y) (sym (drop_more path k no_point lt))
+          ∙ h.cells x y;
       formed = All-push IsRect rects (widened half (from, to)) h.formed (widened_formed half from to thick);
       held = λ r held. All-get_or (HoldsAround r half) path k no_point lt held;
       inside = λ r held. All-push (IsRectIn r) rects (widened half (from, to)) (h.inside r held) (widened_inside half from to r (h.held r held) (All-get_or (HoldsAround r half) path k no_point lt held));

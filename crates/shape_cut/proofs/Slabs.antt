@@ -1,6 +1,6 @@
 -- A polygon, cut slab by slab.
 use Rattle.std.proofs.Common.{◌≡◌, ℕ, ◌+◌, ◌<◌, ◌≤◌, ◌^◌, Bool, true, false, cond, not, ◌&&◌, ◌||◌, List, [], ◌∷◌, ◌++◌, length, take, refl, sym, ap, ◌∙◌, subst, arith}
-use Rattle.std.specs.Prelude.{ℤ, pos, neg_ℤ, ◌≤ℤ◌, ◌<ℤ◌, int_lt, Option, Some, None, count_by}
+use Rattle.std.specs.Prelude.{ℤ, pos, neg_ℤ, ◌≤ℤ◌, ◌<ℤ◌, int_lt, Option, Some, None}
 use Rattle.std.specs.List.{All, AllByRecursion}
 use Rattle.std.proofs.lemmas.Int.{ints, by_lt_z}
 use Rattle.std.specs.List.Sorted.{IsPermutation}
@@ -12,10 +12,10 @@ use Rattle.plane_geom.specs.declared.shapes.Rect.{Rect}
 use Rattle.plane_geom.specs.Bounds.{IsPointWithin}
 use Rattle.plane_geom.specs.Cells.{is_between, is_in_rects}
 use Rattle.plane_geom.specs.Ends.{is_odd, flips}
-use Rattle.plane_geom.specs.Covering.{outline, is_crossed, polygon_covers, IsRect, IsRectIn, HoldsAround, IsOutline}
-use Rattle.shape_cut.specs.Slabs.{nearest, IsOutside, IsNextRow, IsNextOf, IsNext, count_up_to, IsAcross, AreCrossings, IsPaired}
+use Rattle.plane_geom.specs.Covering.{outline, polygon_covers, IsRect, IsRectIn, HoldsAround, IsOutline}
+use Rattle.shape_cut.specs.Slabs.{nearest, IsOutside, IsNextRow, IsNextOf, IsNext, IsAcross, AreCrossings, IsPaired}
 use Rattle.shape_cut.proofs.Segments.{no_point, point_at}
-use Rattle.shape_cut.proofs.Crossings.{is_upright, outline_even, flips_count, covers_same, covers_none}
+use Rattle.shape_cut.proofs.Crossings.{outline_even, flips_count, covers_same, covers_none}
 
 all_as : {X : Type 0} (P Q : X → Type 0) (xs : List X) → ((x : X) → P x → Q x) → AllByRecursion P xs → AllByRecursion Q xs
 all_as P Q [] f h = tt
@@ -150,18 +150,18 @@ cut_more points y n rects made found ends h next crossings sorted paired =
     let all : take (length ends) ends ≡ ends = take_all (length ends) ends (omega arith) in
     let later : y <ℤ n = next.later in
     let cells : (x z : ℤ) → is_in_rects made x z ≡ (is_in_rects rects x z || (flips ends x && is_between y n z)) =
-      λ x z. paired.cells x z ∙ ap (λ l. is_in_rects rects x z || (flips l x && is_between y n z)) all in
+    λ x z. paired.cells x z ∙ ap (λ l. is_in_rects rects x z || (flips l x && is_between y n z)) all in
     record {
       low = omega (arith, ints, h.low);
       high = next.near;
       cells = λ x z below. by_lt_z z y
-      (λ lower. cells x z ∙ or_and_none (is_in_rects rects x z) (flips ends x) (is_between y n z) (not_in y n z lower) ∙ h.cells x z lower)
-      (λ here. cells x z ∙ or_and_now (is_in_rects rects x z) (flips ends x) (is_between y n z) (h.none x z here) (now_in y n z here below) ∙ slab_cells points y n found ends x z next crossings sorted here below);
+          (λ lower. cells x z ∙ or_and_none (is_in_rects rects x z) (flips ends x) (is_between y n z) (not_in y n z lower) ∙ h.cells x z lower)
+          (λ here. cells x z ∙ or_and_now (is_in_rects rects x z) (flips ends x) (is_between y n z) (h.none x z here) (now_in y n z here below) ∙ slab_cells points y n found ends x z next crossings sorted here below);
       none = λ x z above. cells x z ∙ or_and_none (is_in_rects rects x z) (flips ends x) (is_between y n z) (not_in_above y n z above) ∙ h.none x z (omega (arith, ints));
       formed = paired.formed h.formed;
       inside = λ r held.
-        paired.inside r (h.inside r held) (all_across r found ends sorted (crossings.across r held))
-        (λ some. crossings.low r held (let same = length_permutation found ends sorted in omega arith)) (next.reached r held);
+          paired.inside r (h.inside r held) (all_across r found ends sorted (crossings.across r held))
+          (λ some. crossings.low r held (let same = length_permutation found ends sorted in omega arith)) (next.reached r held);
     }
 
 below_all : (y z : ℤ) (p : Point) → p.y ≤ℤ y → y ≤ℤ z → int_lt z p.y ≡ false

@@ -1,11 +1,11 @@
 -- Slabs of a polygon: rows that the same edges span.
-use Rattle.std.specs.Prelude.{◌≡◌, ℕ, ◌+◌, ◌<◌, ◌≤◌, ◌^◌, ℤ, pos, ◌≤ℤ◌, ◌<ℤ◌, Bool, false, cond, not, int_lt, ◌&&◌, ◌||◌, Option, Some, None, List, length, take, count_by, slice_index_or}
+use Rattle.std.specs.Prelude.{◌≡◌, ℕ, ◌<◌, ◌≤◌, ◌^◌, ℤ, pos, ◌≤ℤ◌, ◌<ℤ◌, false, cond, not, int_lt, ◌&&◌, ◌||◌, Option, Some, None, List, length, take, count_by, slice_index_or}
 use Rattle.std.specs.List.{All, AllByRecursion}
 use Rattle.plane_geom.specs.declared.shapes.Point.{Point}
 use Rattle.plane_geom.specs.declared.shapes.Rect.{Rect}
 use Rattle.plane_geom.specs.Cells.{is_between, is_in_rects}
 use Rattle.plane_geom.specs.Ends.{is_odd, flips}
-use Rattle.plane_geom.specs.Covering.{is_vertical, spans, is_crossed, outline, IsRect, IsRectIn, HoldsAround}
+use Rattle.plane_geom.specs.Covering.{is_vertical, spans, is_crossed, IsRect, IsRectIn, HoldsAround}
 
 -- ---- the next row of a corner
 

@@ -5,12 +5,10 @@ ghost use Rattle.plane_geom.specs.Bounds.{IsRectWithin};
 ghost use Rattle.plane_geom.specs.Cells.{is_in_rects};
 ghost use Rattle.plane_geom.specs.Covering.{figure_of, covers, IsRect, IsRectIn, IsReach, IsWellFormed};
 
-use std::alloc::{AllocError, Global};
-
-use plane_geom::{Rect, Shape};
-
 use crate::polygons::cut_polygon;
 use crate::wires::cut_wire;
+use plane_geom::{Rect, Shape};
+use std::alloc::{AllocError, Global};
 
 /// Rectangles that cover exactly the cells of the shape, by the definition `covers`. Each has its corners in order and
 /// lies within the shape's reach, which may go up to 16,777,216 from 0.

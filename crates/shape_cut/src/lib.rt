@@ -15,3 +15,6 @@ mod wires;
 
 pub use cutting::cut;
 pub use laws::one_reach;
+
+#[cfg(test)]
+mod tests;

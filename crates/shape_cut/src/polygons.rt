@@ -8,9 +8,8 @@ ghost use Rattle.plane_geom.specs.Covering.{polygon_covers, is_vertical, spans, 
 ghost use Rattle.std.specs.Int.{int_min, int_max};
 ghost use Rattle.shape_cut.specs.Slabs.{nearest, IsNext, AreCrossings, IsPaired, AreNotFalling};
 
-use std::alloc::{AllocError, Global};
-
 use plane_geom::{Point, Rect};
+use std::alloc::{AllocError, Global};
 
 /// The lowest row that a shape may reach, in mask units.
 const LOWEST: i64 = -16_777_216;

@@ -5,9 +5,8 @@ ghost use Rattle.plane_geom.specs.Bounds.{IsWithin, IsPointWithin};
 ghost use Rattle.plane_geom.specs.Cells.{is_in_rects};
 ghost use Rattle.plane_geom.specs.Covering.{wire_covers, widened, IsRect, IsRectIn, HoldsAround};
 
-use std::alloc::{AllocError, Global};
-
 use plane_geom::{Point, Rect};
+use std::alloc::{AllocError, Global};
 
 /// The widened rectangle of each segment of a wire.
 pub(crate) fn cut_wire(alloc: Global, half: i64, path: &[Point]) -> Result<Vec<Rect>, AllocError>

@@ -1,6 +1,5 @@
-use Rattle.std.proofs.Common.{rules, ap, sym, ◌∙◌, arith, w64, FitsSigned, drop, take, to_z, of_z, ◌+◌, ◌-◌, ◌≡◌, refl, ◌^◌}
-use Rattle.std.specs.Prelude.{ℤ, pos}
-use Rattle.std.proofs.lemmas.Int.{ints, clamps, to_z-of_z, by_lt_z}
+use Rattle.std.proofs.Common.{rules, w64, FitsSigned, to_z, refl}
+use Rattle.std.proofs.lemmas.Int.{to_z-of_z}
 use Rattle.shape_cut.proofs.Pairing.{not_falling}
 use Rattle.shape_cut.proofs.Slabs.{cut_start, cut_more, cut_end, ends_even}
 use Rattle.shape_cut.proofs.polygons.cut_polygon.Goals as goal

@@ -1,6 +1,5 @@
-use Rattle.std.proofs.Common.{rules, ap, sym, ◌∙◌, arith, w64, FitsSigned, drop, to_z, of_z, ◌+◌, ◌-◌, ◌≡◌, refl, ◌^◌}
-use Rattle.std.specs.Prelude.{ℤ, pos}
-use Rattle.std.proofs.lemmas.Int.{ints, clamps, to_z-of_z, by_lt_z}
+use Rattle.std.proofs.Common.{arith}
+use Rattle.std.proofs.lemmas.Int.{ints, by_lt_z}
 use Rattle.shape_cut.proofs.polygons.is_spanned.Goals as goal
 
 pub returns : goal.returns

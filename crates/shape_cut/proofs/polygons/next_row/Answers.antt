@@ -1,6 +1,5 @@
-use Rattle.std.proofs.Common.{rules, ap, sym, ◌∙◌, arith, w64, FitsSigned, drop, take, to_z, of_z, ◌+◌, ◌-◌, ◌≡◌, refl, ◌^◌}
-use Rattle.std.specs.Prelude.{ℤ, pos}
-use Rattle.std.proofs.lemmas.Int.{ints, clamps, to_z-of_z, by_lt_z}
+use Rattle.std.proofs.Common.{rules, w64, FitsSigned}
+use Rattle.std.proofs.lemmas.Int.{to_z-of_z}
 use Rattle.shape_cut.proofs.Segments.{point_at}
 use Rattle.shape_cut.proofs.Slabs.{next_more}
 use Rattle.shape_cut.proofs.polygons.next_row.Goals as goal

@@ -1,6 +1,5 @@
-use Rattle.std.proofs.Common.{rules, ap, sym, ◌∙◌, arith, w64, FitsSigned, drop, take, to_z, of_z, ◌+◌, ◌-◌, ◌≡◌, refl, ◌^◌}
-use Rattle.std.specs.Prelude.{ℤ, pos}
-use Rattle.std.proofs.lemmas.Int.{ints, clamps, to_z-of_z, by_lt_z}
+use Rattle.std.proofs.Common.{w64, FitsSigned}
+use Rattle.std.proofs.lemmas.Int.{to_z-of_z}
 use Rattle.std.proofs.lemmas.Result.{on_ok_weaker}
 use Rattle.shape_cut.proofs.Segments.{point_at}
 use Rattle.shape_cut.proofs.Crossings.{crossings_more, crossings_end}

@@ -1,8 +1,6 @@
-use Rattle.std.proofs.Common.{rules, ap, sym, ◌∙◌, arith, w64, FitsSigned, drop, take, to_z, of_z, ◌+◌, ◌-◌, ◌≡◌, refl, ◌^◌}
-use Rattle.std.specs.Prelude.{ℤ, pos}
-use Rattle.std.proofs.lemmas.Int.{ints, clamps, to_z-of_z, by_lt_z}
-use Rattle.std.specs.List.{All}
-use Rattle.shape_cut.proofs.Segments.{point_at, widened_more, widened_end, one_cells, one_inside}
+use Rattle.std.proofs.Common.{arith, w64, FitsSigned, refl}
+use Rattle.std.proofs.lemmas.Int.{to_z-of_z}
+use Rattle.shape_cut.proofs.Segments.{widened_more, widened_end, one_cells, one_inside}
 use Rattle.shape_cut.proofs.wires.cut_wire.Goals as goal
 
 pub returns-then-path-eq1-clause-cells : goal.returns-then-path-eq1-clause-cells

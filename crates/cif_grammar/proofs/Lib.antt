@@ -1,0 +1,6 @@
+pub mod Numbers
+pub mod Options
+pub mod Repeats
+pub mod Runs
+pub mod Shorter
+pub mod Texts

@@ -1,5 +1,7 @@
+pub mod Joins
 pub mod Numbers
 pub mod Options
+pub mod Points
 pub mod Repeats
 pub mod Runs
 pub mod Shorter

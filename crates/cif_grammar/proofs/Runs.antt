@@ -79,3 +79,7 @@ len_run test (b ∷ run) rest h stop =
 pub take_run : (run rest : List ℕ) → take (length run) (run ++ rest) ≡ run
 take_run [] rest = refl
 take_run (b ∷ run) rest = ap (λ s. b ∷ s) (take_run run rest)
+
+pub drop_run : (run rest : List ℕ) → drop (length run) (run ++ rest) ≡ rest
+drop_run [] rest = refl
+drop_run (b ∷ run) rest = drop_run run rest

@@ -46,7 +46,7 @@ pub record Parts (A B : ℕ → List ℕ → Type 0) (total at : ℕ) (word rest
   pub here : at + length (front ++ (back ++ rest)) ≡ total
   pub there : (at + length front) + length (back ++ rest) ≡ total
 
-pub parts_of : {A B : ℕ → List ℕ → Type 0} (total at : ℕ) (word rest : List ℕ) → at + length (word ++ rest) ≡ total → Then A B at word → Parts A B total at word rest
+abbrev pub parts_of : {A B : ℕ → List ℕ → Type 0} (total at : ℕ) (word rest : List ℕ) → at + length (word ++ rest) ≡ total → Then A B at word → Parts A B total at word rest
 parts_of total at word rest h w =
     let same : word ++ rest ≡ w.front ++ (w.back ++ rest) = ap (λ s. s ++ rest) w.whole ∙ append_assoc w.front w.back rest in
     record {

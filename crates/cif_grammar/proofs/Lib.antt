@@ -1,3 +1,4 @@
+pub mod Again
 pub mod Joins
 pub mod Nesting
 pub mod Numbers

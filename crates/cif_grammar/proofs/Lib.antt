@@ -1,4 +1,5 @@
 pub mod Again
+pub mod Exact
 pub mod Joins
 pub mod Nesting
 pub mod Numbers
@@ -10,3 +11,4 @@ pub mod Runs
 pub mod Shorter
 pub mod Texts
 pub mod Walking
+pub mod Worked

@@ -10,10 +10,12 @@
 mod calls;
 mod command;
 mod comment;
+mod laws;
 mod path;
 mod spelled;
 mod words;
 
 pub use command::next_command;
+pub use laws::one_spelling;
 pub use spelled::{Command, Number, Path, Signed, Spot, Transformation};
 pub use words::{after_blanks, after_gaps};

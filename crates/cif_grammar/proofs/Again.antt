@@ -1,19 +1,19 @@
 -- Commands: what is spelled so is read, whatever follows.
-use Rattle.std.proofs.Common.{◌≡◌, ℕ, zero, suc, ◌+◌, ◌-◌, ◌<◌, ◌≤◌, ◌==◌, Bool, true, false, cond, if◌then◌else◌, nat_lt, List, [], ◌∷◌, ◌++◌, length, take, drop, codes, Option, Some, None, option_map, refl, sym, ap, ◌∙◌, subst, arith, append_assoc}
-use Rattle.std.specs.List.{prefix_len, list_all}
+use Rattle.std.proofs.Common.{◌≡◌, ℕ, zero, suc, ◌+◌, ◌≤◌, Bool, true, false, if◌then◌else◌, nat_lt, List, [], ◌∷◌, ◌++◌, length, take, drop, codes, Option, Some, None, refl, ap, ◌∙◌, arith, append_assoc}
+use Rattle.std.specs.List.{list_all}
 use Rattle.std.specs.Char.{is_ascii_digit}
-use Rattle.std.proofs.lemmas.Bool.{eqb-true, and_from, and_parts, lt-ltb}
+use Rattle.std.proofs.lemmas.Bool.{and_from, and_parts, lt-ltb}
 use Rattle.std.proofs.lemmas.Bool.Decides.{nat_tests}
 use Rattle.std.proofs.lemmas.List.{length-append}
 use Rattle.plane_geom.specs.Names.{is_short, is_short_byte}
 use Rattle.cif_grammar.specs.declared.spelled.Number.{Number}
 use Rattle.cif_grammar.specs.declared.spelled.Spot.{Spot}
-use Rattle.cif_grammar.specs.Words.{Then, ◌⋅◌, Takes, Literally, Nothing, One, Run, is_blank, is_sep}
-use Rattle.cif_grammar.specs.Grammar.{Points, Transform, translate, mirror_x, mirror_y, rotate, Command, box, polygon, wire, layer, call, user, comment, start, finish, point, next, next_point, more_points, direction, scale, transform, transforms, Short, Matched, is_user, UserText, command, end, is_gap}
-use Rattle.cif_grammar.specs.Readers.{◌>>=◌, skip, behind, onto, and_more, repeated, or_none, digits_at, integer_at, signed_in, signed_at, point_at, next_at, next_point_at, more_points_at, mirror_in, transform_in, transform_at, transforms_at, box_at, polygon_at, width_at, wire_at, layer_in, layer_at, call_at, is_text, user_at, closing, comment_at, two_at, start_at, definition_in, definition_at, body_in, body_at, semicolon_at, end_at, command_at}
+use Rattle.cif_grammar.specs.Words.{Then, ◌⋅◌, Literally, One, Run, is_blank, is_sep}
+use Rattle.cif_grammar.specs.Grammar.{Points, Transform, translate, mirror_x, mirror_y, rotate, Command, box, polygon, wire, layer, call, user, comment, start, finish, next, more_points, direction, scale, transform, transforms, is_user, command, end, is_gap}
+use Rattle.cif_grammar.specs.Readers.{skip, onto, and_more, repeated, or_none, digits_at, integer_at, signed_at, point_at, next_at, next_point_at, more_points_at, mirror_in, transform_in, transform_at, transforms_at, box_at, polygon_at, width_at, wire_at, layer_in, layer_at, call_at, is_text, user_at, closing, comment_at, two_at, start_at, definition_in, definition_at, body_in, body_at, semicolon_at, end_at, command_at}
 use Rattle.cif_grammar.proofs.Runs.{begins, skip_run, skip_over, len_run, take_run, drop_run}
 use Rattle.cif_grammar.proofs.Joins.{parts_of, one_begins}
-use Rattle.cif_grammar.proofs.Points.{blank_is_sep, sep_no_digit, integer_again, point_again, next_again, next_point_again}
+use Rattle.cif_grammar.proofs.Points.{digit_is_text, blank_is_sep, sep_no_digit, integer_again, point_again, next_again, next_point_again}
 use Rattle.cif_grammar.proofs.Repeats.{repeated_stop}
 use Rattle.cif_grammar.proofs.Shorter.{next_point_shorter, transform_shorter}
 use Rattle.cif_grammar.proofs.Nesting.{closing_again}
@@ -277,9 +277,6 @@ call_again total at n ts word rest h t e =
 text_of_len : List ℕ → ℕ → Option (Command × List ℕ)
 text_of_len bytes n = if nat_lt n (length bytes) then Some (user (take n bytes), drop n bytes) else None
 
-digit_is_text : (b : ℕ) → is_ascii_digit b ≡ true → is_text b ≡ true
-digit_is_text b h = grind (arith, nat_tests)
-
 user_again : (total b : ℕ) (bs tail : List ℕ) → is_user (b ∷ bs) ≡ true → body_at total ((b ∷ bs) ++ (59 ∷ tail)) ≡ Some (user (b ∷ bs), 59 ∷ tail)
 unfolding body_at user_at text_of_len
 user_again total b bs tail form =
@@ -349,6 +346,7 @@ user_whole total at (b ∷ bs) word more w =
     let same = regroup w more ∙ ap (λ s. s ++ (w.back ++ more)) w.first.whole ∙ ap (λ s. (b ∷ bs) ++ s) (lettered 59 w.second more) in
     steps total _ _ _ (user (b ∷ bs)) (ap (body_at total) same ∙ user_again total b bs (w.second.back ++ more) w.first.form) (ap (λ s. Some s) (skip_over is_gap w.second.back more w.second.second))
 
+-- A command that is spelled with its end is read there, whatever follows.
 pub command_again : (total at : ℕ) (c : Command) (word more : List ℕ) → at + length (word ++ more) ≡ total → (command c ⋅ end c) at word → command_at total (word ++ more) ≡ Some (c, skip is_gap more)
 unfolding end_at
 command_again total at (box l w p d) word more h t =

@@ -1,8 +1,8 @@
 -- The next command is read exactly where one is spelled.
-use Rattle.std.proofs.Common.{◌≡◌, ℕ, ◌+◌, ◌-◌, ◌≤◌, ◌==◌, List, [], ◌∷◌, ◌++◌, length, Option, Some, None, refl, sym, ap, ◌∙◌, arith}
+use Rattle.std.proofs.Common.{◌≡◌, ℕ, ◌-◌, ◌≤◌, ◌==◌, List, [], ◌∷◌, length, Some, None, refl, sym, ap, ◌∙◌, arith}
 use Rattle.cif_grammar.specs.Words.{◌⋅◌, Takes, is_blank}
 use Rattle.cif_grammar.specs.Grammar.{Command, box, polygon, wire, layer, call, user, comment, start, finish, command, end, is_gap}
-use Rattle.cif_grammar.specs.Readers.{◌>>=◌, skip, body_at, semicolon_at, end_at, command_at}
+use Rattle.cif_grammar.specs.Readers.{skip, body_at, semicolon_at, end_at, command_at}
 use Rattle.cif_grammar.proofs.Options.{guarded}
 use Rattle.cif_grammar.proofs.Runs.{parted, skip_stays}
 use Rattle.cif_grammar.proofs.Walking.{command_takes, command_again}

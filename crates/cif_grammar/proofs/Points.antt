@@ -1,18 +1,17 @@
 -- Numbers and points: what is read is spelled so, and what is spelled so is read.
-use Rattle.std.proofs.Common.{◌≡◌, ℕ, ◌+◌, ◌-◌, ◌<◌, ◌≤◌, ◌==◌, Bool, true, false, cond, if◌then◌else◌, List, [], ◌∷◌, ◌++◌, length, take, drop, min, Option, Some, None, refl, sym, ap, ◌∙◌, subst, arith, ⊎_elim, inl, inr, ◌||◌, not}
+use Rattle.std.proofs.Common.{◌≡◌, ℕ, ◌+◌, ◌-◌, ◌<◌, ◌==◌, Bool, true, false, cond, if◌then◌else◌, List, [], ◌∷◌, ◌++◌, length, take, drop, min, Option, Some, None, refl, sym, ap, ◌∙◌, subst, arith}
 use Rattle.std.specs.List.{prefix_len, list_all}
-use Rattle.std.specs.Char.{is_ascii_digit, is_ascii_uppercase}
-use Rattle.std.specs.Str.Parse.{AllDigits, digits_value}
+use Rattle.std.specs.Char.{is_ascii_digit}
+use Rattle.std.specs.Str.Parse.{digits_value}
 use Rattle.std.proofs.lemmas.Bool.{eqb-true, eqb-false, ne_eqb, and_parts}
 use Rattle.std.proofs.lemmas.Bool.Decides.{nat_tests}
-use Rattle.std.proofs.lemmas.List.{length-append}
 use Rattle.cif_grammar.specs.declared.spelled.Number.{Number}
 use Rattle.cif_grammar.specs.declared.spelled.Signed.{Signed}
 use Rattle.cif_grammar.specs.declared.spelled.Spot.{Spot}
-use Rattle.cif_grammar.specs.Words.{◌⋅◌, Takes, Literally, Nothing, One, Run, Digits, is_blank, is_sep, limit}
+use Rattle.cif_grammar.specs.Words.{◌⋅◌, Takes, Digits, is_blank, is_sep, limit}
 use Rattle.cif_grammar.specs.Grammar.{integer, sign, signed, point, next, next_point}
-use Rattle.cif_grammar.specs.Readers.{◌>>=◌, skip, behind, digits_at, integer_at, sized_at, signed_in, signed_at, point_at, next_at, next_point_at}
-use Rattle.cif_grammar.proofs.Options.{bind_some, guarded, some_is}
+use Rattle.cif_grammar.specs.Readers.{◌>>=◌, skip, behind, digits_at, integer_at, sized_at, signed_in, signed_at, point_at, next_at, next_point_at, is_text}
+use Rattle.cif_grammar.proofs.Options.{bind_some, some_is}
 use Rattle.cif_grammar.proofs.Runs.{begins, parted, skip_run, len_run, take_run, drop_run}
 use Rattle.cif_grammar.proofs.Numbers.{own}
 use Rattle.cif_grammar.proofs.Joins.{takes_then, then_at, run_takes, one_takes, byte_takes, nothing_takes, parts_of, one_again, one_begins}
@@ -27,6 +26,9 @@ sep_no_digit b h = grind (arith, nat_tests)
 
 pub blank_is_sep : (b : ℕ) → is_blank b ≡ true → is_sep b ≡ true
 blank_is_sep b h = grind (arith, nat_tests)
+
+pub digit_is_text : (b : ℕ) → is_ascii_digit b ≡ true → is_text b ≡ true
+digit_is_text b h = grind (arith, nat_tests)
 
 digit_no_minus : (b : ℕ) → is_ascii_digit b ≡ true → (b == 45) ≡ false
 digit_no_minus b h = grind (arith, nat_tests)

@@ -1,20 +1,19 @@
 -- Commands: what is read is spelled so.
-use Rattle.std.proofs.Common.{◌≡◌, ℕ, zero, suc, ◌+◌, ◌-◌, ◌<◌, ◌≤◌, ◌==◌, Bool, true, false, cond, if◌then◌else◌, nat_lt, List, [], ◌∷◌, ◌++◌, length, take, drop, codes, Option, Some, None, option_map, refl, sym, ap, ◌∙◌, subst, arith}
+use Rattle.std.proofs.Common.{◌≡◌, ℕ, zero, suc, ◌+◌, ◌==◌, Bool, true, false, cond, nat_lt, List, [], ◌∷◌, length, take, codes, Option, Some, None, option_map, refl, sym, ap, ◌∙◌, subst, arith}
 use Rattle.std.specs.List.{prefix_len, list_all}
 use Rattle.std.specs.Char.{is_ascii_digit}
 use Rattle.std.proofs.lemmas.Bool.{eqb-true, and_from}
-use Rattle.std.proofs.lemmas.Bool.Decides.{nat_tests}
 use Rattle.std.proofs.lemmas.List.{take-append-drop}
 use Rattle.plane_geom.specs.Names.{is_short, is_short_byte}
 use Rattle.cif_grammar.specs.declared.spelled.Number.{Number}
 use Rattle.cif_grammar.specs.declared.spelled.Spot.{Spot}
-use Rattle.cif_grammar.specs.Words.{◌⋅◌, Takes, Literally, Nothing, Run, is_blank}
-use Rattle.cif_grammar.specs.Grammar.{Transform, translate, mirror_x, mirror_y, rotate, Command, box, polygon, wire, layer, call, user, comment, start, finish, point, next, next_point, more_points, direction, scale, transform, transforms, Short, Matched, is_user, command, end, is_gap}
-use Rattle.cif_grammar.specs.Readers.{◌>>=◌, skip, onto, and_more, repeated, or_none, integer_at, point_at, next_at, next_point_at, more_points_at, mirror_in, transform_in, transform_at, transforms_at, box_at, polygon_at, width_at, wire_at, layer_in, layer_at, call_at, is_text, user_at, closing, comment_at, two_at, start_at, definition_in, definition_at, body_in, body_at, semicolon_at, end_at, command_at}
+use Rattle.cif_grammar.specs.Words.{◌⋅◌, Takes, Literally, Run, is_blank}
+use Rattle.cif_grammar.specs.Grammar.{Transform, translate, mirror_x, mirror_y, rotate, Command, box, polygon, wire, layer, call, user, comment, start, finish, next, more_points, direction, scale, transform, transforms, Short, Matched, is_user, command, end, is_gap}
+use Rattle.cif_grammar.specs.Readers.{skip, and_more, repeated, or_none, integer_at, point_at, next_at, next_point_at, more_points_at, mirror_in, transform_in, transform_at, transforms_at, box_at, polygon_at, width_at, wire_at, layer_at, call_at, is_text, user_at, closing, comment_at, two_at, start_at, definition_in, definition_at, body_at, semicolon_at, end_at, command_at}
 use Rattle.cif_grammar.proofs.Options.{bind_some, map_some, guarded, some_is}
 use Rattle.cif_grammar.proofs.Runs.{parted, len_yes}
 use Rattle.cif_grammar.proofs.Joins.{takes_then, then_at, run_takes, byte_takes, nothing_takes}
-use Rattle.cif_grammar.proofs.Points.{integer_takes, point_takes, next_takes, next_point_takes}
+use Rattle.cif_grammar.proofs.Points.{digit_is_text, integer_takes, point_takes, next_takes, next_point_takes}
 use Rattle.cif_grammar.proofs.Nesting.{closing_takes}
 
 -- ---- points and transformations, as often as they stand there
@@ -164,9 +163,6 @@ call_takes total at b bs z e h got =
     let last = transforms_takes total _ n.0.1 (then_at total first h1) in
     subst (λ (z : Command × List ℕ). Takes (command z.0) at (b ∷ bs) z.1) (some_is _ z n.2) (takes_then letter (takes_then first last))
 
-digit_is_text : (b : ℕ) → is_ascii_digit b ≡ true → is_text b ≡ true
-digit_is_text b h = grind (arith, nat_tests)
-
 user_form : (b : ℕ) (bs : List ℕ) → is_ascii_digit b ≡ true → is_user (take (prefix_len is_text (b ∷ bs)) (b ∷ bs)) ≡ true
 user_form b bs e =
     let p = parted is_text bs in
@@ -266,6 +262,7 @@ end_takes at comment bytes rest got = plain_end_takes at bytes rest got
 end_takes at (start n s) bytes rest got = plain_end_takes at bytes rest got
 end_takes at finish bytes rest got = plain_end_takes at bytes rest got
 
+-- A command that is read, and its end, are spelled where they are read.
 pub command_takes : (total at : ℕ) (bytes : List ℕ) (c : Command) (rest : List ℕ) → at + length bytes ≡ total → command_at total bytes ≡ Some (c, rest) → Takes (command c ⋅ end c) at bytes rest
 unfolding command_at
 command_takes total at bytes c rest h got =

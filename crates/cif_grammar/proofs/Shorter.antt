@@ -1,5 +1,5 @@
 -- What stands behind a word is no longer than what begins with it, and shorter where the word has a byte.
-use Rattle.std.proofs.Common.{◌≡◌, ℕ, ◌+◌, ◌-◌, ◌<◌, ◌≤◌, ◌==◌, Bool, true, false, if◌then◌else◌, cond, List, [], ◌∷◌, length, take, drop, Option, Some, None, option_map, refl, sym, ap, ◌∙◌, subst, arith}
+use Rattle.std.proofs.Common.{◌≡◌, ℕ, ◌<◌, ◌≤◌, ◌==◌, Bool, true, false, cond, List, [], ◌∷◌, length, Option, Some, None, option_map, ap, arith}
 use Rattle.std.specs.List.{prefix_len}
 use Rattle.std.specs.Char.{is_ascii_digit}
 use Rattle.std.proofs.lemmas.List.{length-drop}
@@ -8,8 +8,8 @@ use Rattle.cif_grammar.specs.declared.spelled.Signed.{Signed}
 use Rattle.cif_grammar.specs.declared.spelled.Spot.{Spot}
 use Rattle.cif_grammar.specs.Words.{is_blank, is_sep}
 use Rattle.cif_grammar.specs.Grammar.{Transform, translate, mirror_x, mirror_y, rotate}
-use Rattle.cif_grammar.specs.Readers.{◌>>=◌, skip, behind, digits_at, integer_at, sized_at, signed_in, signed_at, point_at, next_point_at, mirror_in, transform_in, transform_at}
-use Rattle.cif_grammar.proofs.Options.{bind_some, map_some, guarded, pair_is, some_is}
+use Rattle.cif_grammar.specs.Readers.{skip, behind, digits_at, sized_at, signed_in, signed_at, point_at, next_point_at, mirror_in, transform_in, transform_at}
+use Rattle.cif_grammar.proofs.Options.{bind_some, map_some, guarded, pair_is}
 
 pub skip_shorter : (test : ℕ → Bool) (bytes : List ℕ) → length (skip test bytes) ≤ length bytes
 skip_shorter test bytes = omega (arith, length-drop (prefix_len test bytes) bytes)

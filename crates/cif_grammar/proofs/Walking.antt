@@ -1,29 +1,21 @@
 -- The commands of a text, one after the other: which lists of commands a text has, and where the longest front of
 -- whole items ends. This is what a reader of whole texts rests on.
-use Rattle.std.proofs.Common.{◌≡◌, ℕ, zero, suc, ◌+◌, ◌-◌, ◌<◌, ◌≤◌, ◌==◌, ◌||◌, Bool, true, false, cond, if◌then◌else◌, List, [], ◌∷◌, ◌++◌, length, codes, Option, Some, None, refl, sym, ap, ◌∙◌, subst, arith, append_assoc, ◌⊎◌, inl, inr}
+use Rattle.std.proofs.Common.{◌≡◌, ℕ, zero, suc, ◌+◌, ◌-◌, ◌<◌, ◌≤◌, ◌==◌, ◌||◌, Bool, true, false, if◌then◌else◌, List, [], ◌∷◌, ◌++◌, length, codes, Option, Some, None, refl, sym, ap, ◌∙◌, subst, arith, ◌⊎◌, inl, inr}
 use Rattle.std.specs.Char.{is_ascii_digit}
 use Rattle.std.proofs.lemmas.Bool.{cases_lt, or_parts}
 use Rattle.std.proofs.lemmas.Bool.Decides.{nat_tests}
 use Rattle.std.proofs.lemmas.List.{length-append}
 use Rattle.cif_grammar.specs.Words.{◌⋅◌, Takes, Literally, Run, is_blank}
-use Rattle.cif_grammar.specs.Grammar.{Command, box, polygon, wire, layer, call, user, comment, start, finish, command, end, is_gap, Placed, is_inside, may_stand, Stands, Items, Spells, Longest}
-use Rattle.cif_grammar.specs.Readers.{◌>>=◌, skip, body_in, body_at, command_at}
+use Rattle.cif_grammar.specs.Grammar.{Command, box, polygon, wire, layer, call, user, comment, start, finish, command, end, is_gap, Placed, may_stand, Stands, Items, Spells, Longest}
+use Rattle.cif_grammar.specs.Readers.{◌>>=◌, skip, body_at, command_at}
 use Rattle.cif_grammar.proofs.Options.{bind_some, guarded, some_is}
 use Rattle.cif_grammar.proofs.Shorter.{skip_shorter}
 use Rattle.cif_grammar.proofs.Runs.{begins, skip_over, skip_stays}
 use Rattle.cif_grammar.proofs.Joins.{takes_then, then_at, run_takes, parts_of}
-use Rattle.cif_grammar.proofs.Rows.{command_takes as read_is_spelled}
-use Rattle.cif_grammar.proofs.Again.{command_again as spelled_is_read}
+pub use Rattle.cif_grammar.proofs.Rows.{command_takes}
+pub use Rattle.cif_grammar.proofs.Again.{command_again}
 
 -- ---- one command
-
--- What is read is spelled so.
-pub command_takes : (total at : ℕ) (bytes : List ℕ) (c : Command) (rest : List ℕ) → at + length bytes ≡ total → command_at total bytes ≡ Some (c, rest) → Takes (command c ⋅ end c) at bytes rest
-command_takes = read_is_spelled
-
--- What is spelled so is read, whatever follows.
-pub command_again : (total at : ℕ) (c : Command) (word more : List ℕ) → at + length (word ++ more) ≡ total → (command c ⋅ end c) at word → command_at total (word ++ more) ≡ Some (c, skip is_gap more)
-command_again = spelled_is_read
 
 marked : (at : ℕ) (word : List ℕ) → (Literally (codes ";") ⋅ Run is_gap) at word → 0 < length word
 marked at word w = omega (arith, ap length w.whole, length-append w.front w.back, ap length w.first)

@@ -1,10 +1,10 @@
 -- Worked rows of the readers, each computed.
-use Rattle.std.proofs.Common.{◌≡◌, ℕ, Bool, true, false, List, [], ◌∷◌, length, codes, Option, Some, None, refl}
+use Rattle.std.proofs.Common.{◌≡◌, ℕ, true, false, List, [], ◌∷◌, length, codes, Option, Some, None, refl}
 use Rattle.cif_grammar.specs.declared.spelled.Number.{Number}
 use Rattle.cif_grammar.specs.declared.spelled.Signed.{Signed}
 use Rattle.cif_grammar.specs.declared.spelled.Spot.{Spot}
 use Rattle.cif_grammar.specs.Words.{limit}
-use Rattle.cif_grammar.specs.Grammar.{Points, Transform, translate, mirror_x, mirror_y, rotate, Command, box, polygon, wire, layer, call, user, comment, start, finish, Placed}
+use Rattle.cif_grammar.specs.Grammar.{translate, mirror_x, mirror_y, rotate, Command, box, polygon, wire, layer, call, user, comment, start, finish}
 use Rattle.cif_grammar.specs.Readers.{digits_at, integer_at, signed_at, point_at, next_at, next_point_at, more_points_at, transform_at, transforms_at, box_at, polygon_at, width_at, wire_at, layer_at, call_at, user_at, comment_at, two_at, start_at, definition_at, body_at, end_at, command_at}
 use Rattle.cif_grammar.proofs.Walking.{walk}
 

@@ -1,5 +1,5 @@
 -- The command that a value of the code is.
-use Rattle.std.specs.Prelude.{◌≡◌, List, map}
+use Rattle.std.specs.Prelude.{map}
 use Rattle.cif_grammar.specs.declared.spelled.Command.{Command as Held}
 use Rattle.cif_grammar.specs.declared.spelled.Command.TheVariants.{Box, Polygon, Wire, Layer, Call, User, Comment, Start, Finish}
 use Rattle.cif_grammar.specs.declared.spelled.Path.{Path}

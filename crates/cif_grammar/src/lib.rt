@@ -1,10 +1,13 @@
 //! The grammar of a CIF text: which bytes spell which commands, and where each command begins.
 //!
-//! The definitions are the grammar's table, row by row, as a relation between whole texts and lists of commands with
-//! numbers as they are written: no scale, no layer and no limit plays a part here. The crate promises that the next
-//! command of a text is read exactly where one is spelled there, and that a text spells one list of commands at most.
+//! The definitions, `Words` and `Grammar` in `specs/`, are the grammar's table, row by row: a relation between whole
+//! texts and lists of commands, with numbers as they are written. No layer, no scale and no limit plays a part here.
 //!
-//! The reader, which judges commands and turns them into mask units, stands on it.
+//! The crate promises that `next_command` reads a command exactly where one is spelled, with the place and the value of
+//! each of its numbers, and that a text spells one list of commands at most (`one_spelling`). It reads in time linear
+//! in the text, and comments of any depth without recursion.
+//!
+//! The reader of whole texts stands on it: it judges commands and turns them into mask units.
 #![tactic(auto)]
 
 mod calls;

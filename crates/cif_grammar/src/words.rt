@@ -77,7 +77,7 @@ fn digits(bytes: &[u8]) -> usize
         .count()
 }
 
-/// What stands behind the first blanks.
+/// What stands behind the first blanks: bytes other than digits, upper-case letters, `-`, `(`, `)` and `;`.
 pub fn after_blanks(bytes: &[u8]) -> &[u8]
     ensures { result.now ≡ skip is_blank_lem bytes.now }
 {

@@ -138,7 +138,7 @@ fn reads_the_points_of_a_wire(rt: HostRuntime) -> Result<(), Fail> {
 
 #[test]
 fn reads_transformations_from_left_to_right(rt: HostRuntime) -> Result<(), Fail> {
-    let text = b"CALL 7 MX T 2 3 R0 1 M Y;";
+    let text = b"CALL 7 MX T 2 3 R 0 1 M Y;";
     match next_command(rt.alloc(), text.len(), text)? {
         Some(
             (
@@ -154,7 +154,7 @@ fn reads_transformations_from_left_to_right(rt: HostRuntime) -> Result<(), Fail>
             let wanted = [
                 Transformation::MirrorX,
                 Transformation::Translate(spot(plus(12, 2), plus(14, 3))),
-                Transformation::Rotate(spot(plus(17, 0), plus(19, 1))),
+                Transformation::Rotate(spot(plus(18, 0), plus(20, 1))),
                 Transformation::MirrorY,
             ];
             assert!(rt; transformations.as_slice() == wanted.as_slice());

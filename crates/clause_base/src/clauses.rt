@@ -71,6 +71,7 @@ pub fn normal(alloc: Global, clause: &[Lit]) -> Result<Option<Clause>, AllocErro
     ensures same { IfOk result (λ found. IfSome found (λ sorted. HaveSame clause.now sorted)) }
     ensures rising { IfOk result (λ found. IfSome found IsRising) }
     ensures apart { IfOk result (λ found. IfSome found (λ sorted. IsApart clause.now)) }
+    ensures sorted_apart { IfOk result (λ found. IfSome found (λ sorted. IsApart sorted)) }
     ensures none { IfOk result (λ found. IfNone found (IsApart clause.now → ⊥)) }
 {
     let sorted = distinct(alloc, clause)?;

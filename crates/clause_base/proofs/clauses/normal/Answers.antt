@@ -11,3 +11,6 @@ returns-then-is_apart-clause-apart c =
 pub returns-else-is_apart-clause-none : goal.returns-else-is_apart-clause-none
 returns-else-is_apart-clause-none c = λ apart.
     not_told c.is_apart.ensures c.if-is_apart.false (subst IsApart (sym c.as_slice.ensures) (apart_same c.args.clause.now c.in_ok-sorted.sorted c.in_ok-sorted.ensures.same apart))
+
+pub returns-then-is_apart-clause-sorted_apart : goal.returns-then-is_apart-clause-sorted_apart
+returns-then-is_apart-clause-sorted_apart c = subst IsApart c.as_slice.ensures (told c.is_apart.ensures c.if-is_apart.true)

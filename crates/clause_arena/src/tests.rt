@@ -1,0 +1,32 @@
+use crate::Arena;
+use clause_base::{Lit, normal};
+use std::test::Fail;
+
+#[test]
+fn references_give_their_clauses(rt: HostRuntime) -> Result<(), Fail> {
+    let alloc = rt.alloc();
+    let rows: [(&[i32], &[i32]); 4] = [
+        (&[1, -2, 3], &[-2, 1, 3]),
+        (&[], &[]),
+        (&[-2], &[-2]),
+        (&[2, 2, 1], &[1, 2]),
+    ];
+    let mut arena = Arena::new(alloc);
+    for (numbers, sorted) in rows {
+        let mut lits = Vec::new(alloc);
+        for number in numbers {
+            lits.push(Lit::new(*number).ok_or("a literal")?)?;
+        }
+        let clause = normal(alloc, lits.as_slice())?.ok_or("no tautology")?;
+        let at = arena.add(clause.as_slice())?;
+        let kept = arena.lits(at);
+        assert_eq!(rt; kept.len(), sorted.len());
+        assert!(rt;
+            kept.iter()
+                .zip(sorted)
+                .all(|(lit, number)| lit.value() == *number)
+        );
+    }
+    assert_eq!(rt; arena.len(), 4);
+    Ok(())
+}

@@ -1,5 +1,1 @@
-pub mod Commands
-pub mod Cuts
-pub mod Numbers
-pub mod Options
-pub mod Texts
+pub mod Casts

@@ -1,5 +1,6 @@
-pub mod File
-pub mod Grammar
-pub mod Readers
+pub mod Scope
+pub mod Label
+pub mod Measure
+pub mod Faults
 pub mod Reading
-pub mod Seen
+pub mod File

@@ -1,9 +1,10 @@
 //! What a CIF file holds, in mask units.
 
-use plane_geom::{Label, Point, Shape, Short};
+use indexmap::IndexMap;
+use plane_geom::{Label, Place, Point, Shape, Short};
 use std::marker::Model;
 
-/// A drawn shape or a label, and where its command stands in the text.
+/// A shape, a call or a label, and where its command stands in the text.
 #[derive(Debug, Drop)]
 pub struct Item {
     /// The number of bytes before the command's first byte.
@@ -15,10 +16,9 @@ pub struct Item {
 #[derive(Debug, Drop)]
 pub enum What {
     /// A shape on a layer.
-    Draw {
-        layer: Short,
-        shape: Shape,
-    },
+    Draw { layer: Short, shape: Shape },
+    /// A call of the symbol of that number, placed.
+    Call { symbol: u32, place: Place },
     /// A label at a point, and the layer that it names, if it names one.
     Mark {
         name: Label,
@@ -27,37 +27,32 @@ pub enum What {
     },
 }
 
-/// A CIF file, as it is read. Contracts see the items of its top, in the order of their commands. Its shapes are well
-/// formed, and its coordinates are within ±2147483647.
+/// A symbol: its number, where its definition begins in the text, and its items in the order of their commands.
+#[derive(Debug, Drop)]
+pub struct Symbol {
+    pub number: u32,
+    /// The number of bytes before the first byte of the definition.
+    pub pos: u64,
+    pub items: Vec<Item>,
+}
+
+/// A CIF file, as it is read. Contracts see its symbols in the order of their definitions, and the items of its top in
+/// the order of their commands. By the definition `IsFile` its shapes are well formed, its coordinates are within
+/// ±2147483647, and no two symbols have one number.
 #[derive(Debug, Drop)]
 pub struct CifFile {
-    pub(crate) top: Vec<Item>,
+    symbols: IndexMap<u32, Symbol>,
+    top: Vec<Item>,
 }
 
 impl Model for CifFile {
-    ghost use Rattle.std.specs.Prelude.{List};
-    ghost use Rattle.std.specs.List.{AllByRecursion};
-    ghost use Rattle.cif_reader.specs.declared.file.Item.{Item};
-    ghost use Rattle.cif_reader.specs.File.{IsItem};
+    ghost use Rattle.std.specs.Prelude.{nat_eq};
+    ghost use Rattle.indexmap.specs.IndexMap.{IsUnique, values};
+    ghost use Rattle.cif_reader.specs.File.{Contents, IsFile, AreNumbered};
 
-    ghost Value = { List Item };
+    ghost Value = { Contents };
 
-    ghost view = { λ file. file.top.items };
+    ghost view = { λ f. record { symbols = values f.symbols; top = f.top.items } };
 
-    ghost invariant = { λ file. AllByRecursion IsItem file.top.items };
-}
-
-impl CifFile {
-    ghost use Rattle.std.specs.Prelude.{◌≡◌};
-    ghost use Rattle.std.specs.List.{AllByRecursion};
-    ghost use Rattle.cif_reader.specs.File.{IsItem};
-
-    /// The items outside of symbols, in the order of their commands.
-    pub fn top(&self) -> &[Item]
-        ensures same { result.now ≡ self.now }
-        // Each shape is well formed, and all coordinates are within ±2147483647.
-        ensures kept { AllByRecursion IsItem self.now }
-    {
-        self.top.as_slice()
-    }
+    ghost invariant = { λ f. AreNumbered f.symbols.entries × IsUnique nat_eq f.symbols × IsFile (record { symbols = values f.symbols; top = f.top.items }) };
 }

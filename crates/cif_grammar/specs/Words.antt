@@ -17,6 +17,12 @@ pub record Then (A B : ℕ → List ℕ → Type 0) (at : ℕ) (bytes : List ℕ
   pub second : B (at + length front) back
   pub whole : bytes ≡ front ++ back
 
+-- a word that the bytes begin with, and what stands behind it
+pub record Takes (word : ℕ → List ℕ → Type 0) (at : ℕ) (bytes rest : List ℕ) : Type 0 where
+  pub front : List ℕ
+  pub spelled : word at front
+  pub whole : bytes ≡ front ++ rest
+
 infixr 3 ◌⋅◌
 abbrev pub ◌⋅◌ : Word → Word → Word
 a ⋅ b = Then a b

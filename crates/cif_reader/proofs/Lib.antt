@@ -1,1 +1,5 @@
-pub mod Casts
+pub mod Bools
+pub mod Transforming
+pub mod Measures
+pub mod Paths
+pub mod Placing

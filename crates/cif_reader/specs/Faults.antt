@@ -1,5 +1,5 @@
 -- Commands at fault, and the refusals of texts.
-use Rattle.std.specs.Prelude.{◌≡◌, ◌⊎◌, ℕ, ◌+◌, Bool, true, false, not, ◌&&◌, ◌||◌, ◌==◌, nat_lt, List, [], ◌∷◌, ◌++◌, length, drop, find, flat_map, Option, Some, None, option_map, is_none, if◌then◌else◌}
+use Rattle.std.specs.Prelude.{◌≡◌, ◌⊎◌, ℕ, ◌+◌, Bool, true, false, not, ◌&&◌, ◌||◌, ◌==◌, nat_lt, List, [], ◌∷◌, ◌++◌, length, drop, find, flat_map, Option, Some, None, option_map, is_some, is_none, if◌then◌else◌}
 use Rattle.std.specs.List.{list_any, list_all, prefix_len}
 use Rattle.std.specs.Option.{option_or}
 use Rattle.plane_geom.specs.Covering.{is_along, outline, segments}
@@ -13,7 +13,7 @@ use Rattle.cif_reader.specs.declared.refusal.CifRefusal.TheVariants.{Syntax, Num
 use Rattle.cif_reader.specs.declared.refusal.Feature.TheVariants.{Round, DefDelete}
 use Rattle.cif_reader.specs.Scope.{layer_behind, scale_behind}
 use Rattle.cif_reader.specs.Label.{is_label, label_in}
-use Rattle.cif_reader.specs.Measure.{facing, point_of, points_of, has_turns, is_far, is_whole, reached, gridded}
+use Rattle.cif_reader.specs.Measure.{facing, point_of, points_along, has_turns, is_far, is_whole, reached, gridded}
 
 -- ---- the numbers of a command, in the order in which they are written
 
@@ -64,9 +64,9 @@ has_many_points _ = false
 
 -- All directions, edges and segments lie on the axes.
 abbrev pub is_manhattan : Command → Bool
-is_manhattan (box l w c (Some d)) = elim (facing (point_of d)) [ Some f ↦ true | None ↦ false ]
-is_manhattan (polygon p) = list_all is_along (outline (points_of p))
-is_manhattan (wire w p) = list_all is_along (segments (points_of p))
+is_manhattan (box l w c (Some d)) = is_some (facing (point_of d))
+is_manhattan (polygon p) = list_all is_along (outline (points_along p))
+is_manhattan (wire w p) = list_all is_along (segments (points_along p))
 is_manhattan (call n ts) = has_turns ts
 is_manhattan _ = true
 

@@ -1,3 +1,4 @@
+pub mod Near
 pub mod Scope
 pub mod Label
 pub mod Measure

@@ -1,7 +1,9 @@
 -- Measures of commands. A distance d of the text is 2·d mask units, times the scale a/b of its definition.
-use Rattle.std.specs.Prelude.{ℕ, ◌+◌, ◌*◌, ◌/◌, ◌%◌, ℤ, pos, neg_ℤ, ◌+ℤ◌, ◌-ℤ◌, ◌*ℤ◌, nat_abs, int_lt, nat_lt, Bool, true, false, not, ◌&&◌, ◌||◌, ◌==◌, List, [], ◌∷◌, ◌++◌, map, flat_map, Option, Some, None, if◌then◌else◌}
+use Rattle.std.specs.Prelude.{ℕ, ◌+◌, ◌*◌, ◌/◌, ◌%◌, ℤ, pos, neg_ℤ, ◌+ℤ◌, ◌-ℤ◌, ◌*ℤ◌, nat_abs, int_lt, nat_lt, Bool, true, false, not, ◌&&◌, ◌||◌, ◌==◌, List, [], ◌∷◌, ◌++◌, map, flat_map, is_some, Option, Some, None, if◌then◌else◌}
+use Rattle.std.specs.List.{list_all}
 use Rattle.std.specs.Ordering.{int_eq}
 use Rattle.plane_geom.specs.declared.shapes.Point.{Point}
+use Rattle.plane_geom.specs.declared.shapes.Rect.{Rect}
 use Rattle.plane_geom.specs.Placement.{Step, shift, negate_x, negate_y, exchange, moved}
 use Rattle.cif_grammar.specs.declared.spelled.Signed.{Signed}
 use Rattle.cif_grammar.specs.declared.spelled.Spot.{Spot}
@@ -21,8 +23,8 @@ value_of s = if s.minus then neg_ℤ (pos s.size.value) else pos s.size.value
 abbrev pub point_of : Spot → Point
 point_of p = record { x = value_of p.x; y = value_of p.y }
 
-abbrev pub points_of : Points → List Point
-points_of p = map point_of (p.first ∷ p.others)
+abbrev pub points_along : Points → List Point
+points_along p = map point_of (p.first ∷ p.others)
 
 -- ---- numbers of mask units in a scale
 
@@ -37,6 +39,13 @@ is_whole s z = nat_abs z * s.a % s.b == 0
 -- that number
 abbrev pub scaled : Scale → ℤ → ℤ
 scaled s z = if int_lt z (pos 0) then neg_ℤ (pos (nat_abs z * s.a / s.b)) else pos (nat_abs z * s.a / s.b)
+
+-- a point of the text, in mask units
+abbrev pub scaled_point : Scale → Point → Point
+scaled_point s p = record { x = scaled s (pos 2 *ℤ p.x); y = scaled s (pos 2 *ℤ p.y) }
+
+abbrev pub scaled_rect : Scale → Corners → Rect
+scaled_rect s r = record { x0 = scaled s r.x0; y0 = scaled s r.y0; x1 = scaled s r.x1; y1 = scaled s r.y1 }
 
 -- ---- directions
 
@@ -97,11 +106,13 @@ origin = record { x = pos 0; y = pos 0 }
 abbrev pub shift_of : List Transform → Point
 shift_of ts = moved (steps_of (λ z. z) ts) origin
 
--- All its directions lie on the axes.
+-- Its direction, if it has one, lies on an axis.
+abbrev pub is_turn : Transform → Bool
+is_turn (rotate d) = is_some (facing (point_of d))
+is_turn _ = true
+
 abbrev pub has_turns : List Transform → Bool
-has_turns [] = true
-has_turns (rotate d ∷ ts) = elim (facing (point_of d)) [ Some f ↦ has_turns ts | None ↦ false ]
-has_turns (_ ∷ ts) = has_turns ts
+has_turns ts = list_all is_turn ts
 
 abbrev pub of_label : Option Label → List ℤ
 of_label None = []
@@ -110,8 +121,8 @@ of_label (Some l) = doubled l.at
 -- what may not be far: corners, points, half widths, label points, and the composed shift of a call that has one
 abbrev pub reached : Command → List ℤ
 reached (box l w c d) = sides (box_corners l.value w.value c d)
-reached (polygon p) = flat_map doubled (points_of p)
-reached (wire w p) = pos w.value ∷ flat_map doubled (points_of p)
+reached (polygon p) = flat_map doubled (points_along p)
+reached (wire w p) = pos w.value ∷ flat_map doubled (points_along p)
 reached (call n ts) = if has_turns ts then (shift_of ts).x ∷ (shift_of ts).y ∷ [] else []
 reached (user text) = of_label (label_in text)
 reached _ = []

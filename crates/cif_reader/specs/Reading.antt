@@ -1,19 +1,17 @@
 -- The file that commands without fault say, in mask units.
-use Rattle.std.specs.Prelude.{◌≡◌, ◌⊎◌, ℕ, ℤ, pos, ◌*ℤ◌, Bool, true, false, List, [], ◌∷◌, ◌++◌, map, Option, Some, None, if◌then◌else◌}
+use Rattle.std.specs.Prelude.{◌≡◌, ◌⊎◌, ℕ, pos, Bool, true, false, List, [], ◌∷◌, ◌++◌, map, Option, Some, None, if◌then◌else◌}
 use Rattle.plane_geom.specs.declared.shapes.Point.{Point}
-use Rattle.plane_geom.specs.declared.shapes.Rect.{Rect}
 use Rattle.plane_geom.specs.Covering.{Figure, block, polygon as outlined, wire as drawn_along, figure_of}
 use Rattle.plane_geom.specs.Placement.{Step, IsPlaceOf}
 use Rattle.cif_grammar.specs.Grammar.{Points, Command, box, polygon, wire, layer, call, user, comment, start, finish, Placed, Spells, is_inside}
 use Rattle.cif_reader.specs.declared.measure.Scale.{Scale}
-use Rattle.cif_reader.specs.declared.measure.Corners.{Corners}
 use Rattle.cif_reader.specs.declared.file.Item.{Item}
 use Rattle.cif_reader.specs.declared.file.Symbol.{Symbol}
 use Rattle.cif_reader.specs.declared.file.What.{What}
 use Rattle.cif_reader.specs.declared.file.What.TheVariants.{Draw, Call, Mark}
 use Rattle.cif_reader.specs.Scope.{Opening, layer_behind, open_behind, scale_behind}
 use Rattle.cif_reader.specs.Label.{Label, label_in}
-use Rattle.cif_reader.specs.Measure.{scaled, point_of, points_of, box_corners, steps_of}
+use Rattle.cif_reader.specs.Measure.{scaled, scaled_point, scaled_rect, points_along, box_corners, steps_of}
 use Rattle.cif_reader.specs.Faults.{first_fault}
 use Rattle.cif_reader.specs.File.{Contents}
 
@@ -24,13 +22,6 @@ pub data Saying : Type 0 where
   drawn : List ℕ → Figure → Saying
   called : ℕ → List Step → Saying
   marked : List ℕ → Point → Option (List ℕ) → Saying
-
--- a point of the text, in mask units
-abbrev pub scaled_point : Scale → Point → Point
-scaled_point s p = record { x = scaled s (pos 2 *ℤ p.x); y = scaled s (pos 2 *ℤ p.y) }
-
-abbrev pub scaled_rect : Scale → Corners → Rect
-scaled_rect s r = record { x0 = scaled s r.x0; y0 = scaled s r.y0; x1 = scaled s r.x1; y1 = scaled s r.y1 }
 
 -- a figure on the current layer
 abbrev pub on_layer : Option (List ℕ) → Figure → List Saying
@@ -44,8 +35,8 @@ labelled s (Some l) = marked l.name (scaled_point s l.at) l.layer ∷ []
 -- What a command says on the current layer and in a scale, if anything.
 abbrev pub said : Option (List ℕ) → Scale → Command → List Saying
 said current s (box l w c d) = on_layer current (block (scaled_rect s (box_corners l.value w.value c d)))
-said current s (polygon p) = on_layer current (outlined (map (scaled_point s) (points_of p)))
-said current s (wire w p) = on_layer current (drawn_along (scaled s (pos w.value)) (map (scaled_point s) (points_of p)))
+said current s (polygon p) = on_layer current (outlined (map (scaled_point s) (points_along p)))
+said current s (wire w p) = on_layer current (drawn_along (scaled s (pos w.value)) (map (scaled_point s) (points_along p)))
 said current s (call n ts) = called n.value (steps_of (scaled s) ts) ∷ []
 said current s (user text) = labelled s (label_in text)
 said current s _ = []

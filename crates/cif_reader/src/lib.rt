@@ -7,10 +7,12 @@
 //! The flattening of calls and the extraction of nets stand on it.
 #![tactic(auto)]
 
+mod calls;
 mod facing;
 mod file;
 
 mod measure;
+mod path;
 mod refusal;
 
 pub use file::{CifFile, Item, Symbol, What};

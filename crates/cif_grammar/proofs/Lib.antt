@@ -1,0 +1,11 @@
+pub mod Again
+pub mod Joins
+pub mod Nesting
+pub mod Numbers
+pub mod Options
+pub mod Points
+pub mod Repeats
+pub mod Rows
+pub mod Runs
+pub mod Shorter
+pub mod Texts

@@ -136,7 +136,7 @@ pub record Placed : Type 0 where
 -- Whether the text stands inside a definition behind these commands, the latest first.
 abbrev pub is_inside : List Placed → Bool
 is_inside [] = false
-is_inside (c ∷ before) = elim c.what [ | start n s ↦ true | finish ↦ false | _ ↦ is_inside before ]
+is_inside (c ∷ before) = elim c.what [ start n s ↦ true | finish ↦ false | _ ↦ is_inside before ]
 
 -- A definition starts outside of one, and finishes inside.
 abbrev pub may_stand : List Placed → Command → Bool

@@ -69,13 +69,18 @@ next_point_at total bytes = do
 abbrev pub onto : {A : Type 0} → A → List A × List ℕ → List A × List ℕ
 onto x read = (x ∷ read.0, read.1)
 
+-- nothing, or what was read and then more
+abbrev pub and_more : {A : Type 0} → List ℕ → Option (A × List ℕ) → (List ℕ → List A × List ℕ) → List A × List ℕ
+and_more bytes None more = ([], bytes)
+and_more bytes (Some x) more = onto x.0 (more x.1)
+
 -- at most so many
-abbrev pub points_within : ℕ → ℕ → List ℕ → List Spot × List ℕ
-points_within zero total bytes = ([], bytes)
-points_within (suc most) total bytes = elim (next_point_at total bytes) [ None ↦ ([], bytes) | Some x ↦ onto x.0 (points_within most total x.1) ]
+abbrev pub repeated : {A : Type 0} → (List ℕ → Option (A × List ℕ)) → ℕ → List ℕ → List A × List ℕ
+repeated one zero bytes = ([], bytes)
+repeated one (suc most) bytes = and_more bytes (one bytes) (repeated one most)
 
 unfoldable pub more_points_at : ℕ → List ℕ → List Spot × List ℕ
-more_points_at total bytes = points_within (length bytes) total bytes
+more_points_at total bytes = repeated (next_point_at total) (length bytes) bytes
 
 abbrev pub mirror_in : List ℕ → Option (Transform × List ℕ)
 mirror_in [] = None
@@ -92,12 +97,8 @@ transform_in total (b ∷ bs) =
 unfoldable pub transform_at : ℕ → List ℕ → Option (Transform × List ℕ)
 transform_at total bytes = transform_in total (skip is_blank bytes)
 
-abbrev pub transforms_within : ℕ → ℕ → List ℕ → List Transform × List ℕ
-transforms_within zero total bytes = ([], bytes)
-transforms_within (suc most) total bytes = elim (transform_at total bytes) [ None ↦ ([], bytes) | Some x ↦ onto x.0 (transforms_within most total x.1) ]
-
 unfoldable pub transforms_at : ℕ → List ℕ → List Transform × List ℕ
-transforms_at total bytes = transforms_within (length bytes) total bytes
+transforms_at total bytes = repeated (transform_at total) (length bytes) bytes
 
 -- ---- each command, behind its letter
 

@@ -7,6 +7,13 @@
 //! The reader, which judges commands and turns them into mask units, stands on it.
 #![tactic(auto)]
 
+mod calls;
+mod command;
+mod comment;
+mod path;
 mod spelled;
+mod words;
 
+pub use command::next_command;
 pub use spelled::{Command, Number, Path, Signed, Spot, Transformation};
+pub use words::{after_blanks, after_gaps};

@@ -57,7 +57,10 @@ pub enum Command<'a> {
     /// `P`
     Polygon(Path),
     /// `W`: the width, and the centre line.
-    Wire { width: Number, path: Path },
+    Wire {
+        width: Number,
+        path: Path,
+    },
     /// `L`
     Layer(Short),
     /// `C`: the number of a symbol, and its transformations from left to right.

@@ -2,7 +2,7 @@
 use Rattle.std.proofs.Common.{◌≡◌, ℕ, suc, zero, ◌+◌, ◌*◌, ◌<◌, ◌≤◌, Bool, true, false, ◌&&◌, List, [], ◌∷◌, ◌++◌, map, refl, sym, ap, subst, ◌∙◌, arith}
 use Rattle.std.specs.Prelude.{ℤ, pos, negsuc, neg_ℤ, ◌+ℤ◌, ◌*ℤ◌, flat_map, Option, Some, None, nat_abs, ◌%◌, ◌/◌, int_lt, ◌==◌, if◌then◌else◌}
 use Rattle.std.specs.List.{list_any, list_all}
-use Rattle.std.proofs.Math.IntN.{pos-*ℤ-pos, negsuc-*ℤ-pos, *ℤ_comm}
+use Rattle.std.proofs.Math.IntN.{pos-*ℤ-pos, negsuc-*ℤ-pos, *ℤ_comm, zero-*ℤ, suc_ℤ-*ℤ}
 use Rattle.std.proofs.Math.Nat.{mul-div_left}
 use Rattle.std.proofs.lemmas.Nat.{div-add-mod'}
 use Rattle.std.proofs.lemmas.Bool.Decides.{nat_tests}
@@ -93,8 +93,14 @@ steps_split f (t ∷ ts) p =
 
 -- ---- a shift in a scale
 
-plus_times : (a b c : ℤ) → (a +ℤ b) *ℤ c ≡ a *ℤ c +ℤ b *ℤ c
-plus_times a b c = grind (arith, ints)
+times_plus : (n : ℕ) (a b : ℤ) → pos n *ℤ (a +ℤ b) ≡ pos n *ℤ a +ℤ pos n *ℤ b
+times_plus zero a b = zero-*ℤ (a +ℤ b) ∙ λ i. sym (zero-*ℤ a) i +ℤ sym (zero-*ℤ b) i
+times_plus (suc n) a b = suc_ℤ-*ℤ (pos n) (a +ℤ b) ∙ ap (λ z. z +ℤ (a +ℤ b)) (times_plus n a b) ∙ paired (pos n *ℤ a) (pos n *ℤ b) a b ∙ λ i. sym (suc_ℤ-*ℤ (pos n) a) i +ℤ sym (suc_ℤ-*ℤ (pos n) b) i where
+  paired : (c d e f : ℤ) → (c +ℤ d) +ℤ (e +ℤ f) ≡ (c +ℤ e) +ℤ (d +ℤ f)
+  paired c d e f = omega (arith, ints)
+
+plus_times : (a b : ℤ) (n : ℕ) → (a +ℤ b) *ℤ pos n ≡ a *ℤ pos n +ℤ b *ℤ pos n
+plus_times a b n = *ℤ_comm (a +ℤ b) (pos n) ∙ times_plus n a b ∙ λ i. *ℤ_comm (pos n) a i +ℤ *ℤ_comm (pos n) b i
 
 neg_times : (a c : ℤ) → neg_ℤ a *ℤ c ≡ neg_ℤ (a *ℤ c)
 neg_times a c = grind (arith, ints)
@@ -154,7 +160,7 @@ neg_scales s z w h = neg_times w (pos s.b) ∙ ap neg_ℤ h ∙ sym (neg_times z
 
 plus_scales : (s : Scale) (z w d : ℤ) → is_whole s d ≡ true → w *ℤ pos s.b ≡ z *ℤ pos s.a → (w +ℤ scaled s d) *ℤ pos s.b ≡ (z +ℤ d) *ℤ pos s.a
 plus_scales s z w d whole h =
-    plus_times w (scaled s d) (pos s.b) ∙ (λ i. h i +ℤ scaled_times s d whole i) ∙ sym (plus_times z d (pos s.a))
+    plus_times w (scaled s d) s.b ∙ (λ i. h i +ℤ scaled_times s d whole i) ∙ sym (plus_times z d s.a)
 
 facing_scales : (s : Scale) (f : Option Facing) (p q : Point) → Scales s p q → Scales s (moved (turns_to f) p) (moved (turns_to f) q)
 facing_scales s None p q h = h
@@ -199,9 +205,9 @@ pub call_place : (s : Scale) (ts : List Transform) (turn made : Place) (by : Pla
     → ((p : Point) → placed by p ≡ plus p (record { x = by.dx; y = by.dy }))
     → by.dx ≡ scaled s (shift_of ts).x → by.dy ≡ scaled s (shift_of ts).y
     → ((p : Point) → placed made p ≡ placed by (placed turn p)) → IsPlaceOf (steps_of (scaled s) ts) made
-call_place s ts turn made by some whole turns only dx dy then = record {
+call_place s ts turn made by some whole turns only dx dy both = record {
   moves = λ p.
-    then p ∙ only (placed turn p) ∙ ap (λ q. plus q (record { x = by.dx; y = by.dy })) (turns.moves p)
+    both p ∙ only (placed turn p) ∙ ap (λ q. plus q (record { x = by.dx; y = by.dy })) (turns.moves p)
     ∙ ap (plus (moved (flat_map turns_once ts) p)) ((λ i. record { x = dx i; y = dy i }) ∙ shift_scaled s ts some whole)
     ∙ sym (steps_split (scaled s) ts p);
 }

@@ -1,7 +1,7 @@
 -- What the code computes step by step, and how far from 0 its numbers lie before the scale, so that its sums fit.
 -- The definitions of what a text says are in the other files.
-use Rattle.std.specs.Prelude.{ℕ, ◌^◌, Bool, List, [], ◌∷◌, Option, Some, None, if◌then◌else◌}
-use Rattle.std.specs.List.{list_any, list_all}
+use Rattle.std.specs.Prelude.{ℕ, ◌^◌, ◌==◌, not, take, drop, Bool, List, [], ◌∷◌, Option, Some, None, if◌then◌else◌}
+use Rattle.std.specs.List.{list_any, list_all, prefix_len}
 use Rattle.plane_geom.specs.Covering.{is_along}
 use Rattle.plane_geom.specs.Placement.{Step, negate_x, negate_y}
 use Rattle.cif_grammar.specs.declared.spelled.Spot.{Spot}
@@ -10,6 +10,9 @@ use Rattle.cif_reader.specs.declared.measure.Scale.{Scale}
 use Rattle.cif_reader.specs.Measure.{point_of, doubled, is_far, is_whole, facing, turns_to}
 use Rattle.plane_geom.specs.Bounds.{IsWithin}
 use Rattle.cif_reader.specs.declared.measure.Corners.{Corners}
+use Rattle.cif_reader.specs.declared.label.LabelText.{LabelText}
+use Rattle.plane_geom.specs.Names.{is_short}
+use Rattle.cif_reader.specs.Label.{Label, is_white, coordinate_of, label_at}
 
 pub record AreNear (r : Corners) : Type 0 where
   pub x0 : IsWithin (2 ^ 96) r.x0
@@ -35,3 +38,40 @@ turns_once (translate d) = []
 turns_once mirror_x = negate_x ∷ []
 turns_once mirror_y = negate_y ∷ []
 turns_once (rotate d) = turns_to (facing (point_of d))
+
+-- ---- the fields of a label, one by one
+
+abbrev pub is_dark : ℕ → Bool
+is_dark b = not (is_white b)
+
+-- the first field of these bytes, and what stands behind it
+abbrev pub split_field : List ℕ → Option (List ℕ × List ℕ)
+split_field bytes = if prefix_len is_dark bytes == 0 then None else Some (take (prefix_len is_dark bytes) bytes, drop (prefix_len is_dark bytes) bytes)
+
+unfoldable pub field_at : List ℕ → Option (List ℕ × List ℕ)
+field_at bytes = split_field (drop (prefix_len is_white bytes) bytes)
+
+abbrev pub label_seen : LabelText → Label
+label_seen l = record { name = l.name.now; at = l.at; layer = l.layer }
+
+-- with the layer, if one more field stands there, and with no further one
+abbrev pub label_on : List ℕ → List ℕ → List ℕ → List ℕ → Option (List ℕ × List ℕ) → Option Label
+label_on name x y layer None = if is_short layer then label_at name (coordinate_of x) (coordinate_of y) (Some layer) else None
+label_on name x y layer (Some f) = None
+
+abbrev pub label_tail : List ℕ → List ℕ → List ℕ → Option (List ℕ × List ℕ) → Option Label
+label_tail name x y None = label_at name (coordinate_of x) (coordinate_of y) None
+label_tail name x y (Some f) = label_on name x y f.0 (field_at f.1)
+
+infixl 10 ◌>>=◌
+abbrev pub ◌>>=◌ : {A B : Type 0} → Option A → (A → Option B) → Option B
+None >>= f = None
+(Some x) >>= f = f x
+
+abbrev pub label_by_fields : List ℕ → Option Label
+label_by_fields text = do
+  n ← field_at text
+  name ← field_at n.1
+  x ← field_at name.1
+  y ← field_at x.1
+  label_tail name.0 x.0 y.0 (field_at y.1)

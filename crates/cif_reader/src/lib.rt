@@ -11,6 +11,7 @@ mod calls;
 mod facing;
 mod file;
 
+mod label;
 mod measure;
 mod path;
 mod refusal;

@@ -16,7 +16,23 @@ then-requires-clause-second c = record {
 }
 
 pub returns-clause-place : goal.returns-clause-place
-returns-clause-place c = ?
+returns-clause-place c =
+    let x : FitsSigned w128 c.shift_of-x.result.0 = search rules in
+    let y : FitsSigned w128 c.shift_of-x.result.1 = search rules in
+    let dx : FitsSigned w64 c.scaled.result = search rules in
+    let dy : FitsSigned w64 c.scaled-2.result = search rules in
+    let ts = map transform_of c.args.transformations.now in
+    let dx_is = simp to_z-of_z at c.scaled.ensures.value in
+    let dy_is = simp to_z-of_z at c.scaled-2.ensures.value in
+    call_place c.args.scale ts c.turned.result c.then.result _ c.requires.some c.requires.whole c.turned.ensures.place (λ p. refl)
+    (to_z-of_z w64 c.scaled.result dx ∙ dx_is ∙ ap (scaled c.args.scale) c.shift_of-x.ensures.x)
+    (to_z-of_z w64 c.scaled-2.result dy ∙ dy_is ∙ ap (scaled c.args.scale) c.shift_of-x.ensures.y)
+    c.then.ensures.moves
 
 pub returns-clause-within : goal.returns-clause-within
-returns-clause-within c = c.then.ensures.near 0 limit c.turned.ensures.still ?
+unfolding limit
+returns-clause-within c =
+    c.then.ensures.near 0 limit c.turned.ensures.still (record {
+      dx = record { low = omega (arith, ints, c.scaled.ensures.within.low); high = omega (arith, ints, c.scaled.ensures.within.high) };
+      dy = record { low = omega (arith, ints, c.scaled-2.ensures.within.low); high = omega (arith, ints, c.scaled-2.ensures.within.high) };
+    })

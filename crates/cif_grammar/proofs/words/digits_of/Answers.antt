@@ -1,0 +1,5 @@
+use Rattle.cif_grammar.proofs.Numbers.{first_digits}
+use Rattle.cif_grammar.proofs.words.digits_of.Goals as goal
+
+pub value_of-requires : goal.value_of-requires
+value_of-requires c = rw c.digits-count.ensures.value (first_digits c.args.bytes.now)

@@ -67,6 +67,7 @@ fn are_digits(bytes: &[u8]) -> bool
 }
 
 /// The value of digits; the first value over the limit stands for all that are greater.
+#[tactic(auto, unfolding(cif_grammar::specs::Words::limit))]
 fn value_of_digits(digits: &[u8]) -> u64
     requires { AllDigits 10 digits.now }
     ensures { result ≡ min (digits_value 10 digits.now) (limit + 1) }
@@ -79,6 +80,7 @@ fn value_of_digits(digits: &[u8]) -> u64
 }
 
 /// The value of digits up to the limit.
+#[tactic(auto, unfolding(cif_grammar::specs::Words::limit))]
 fn size_of(digits: &[u8]) -> Option<u32>
     ensures { result ≡ size_of_lem digits.now }
 {
@@ -94,6 +96,7 @@ fn size_of(digits: &[u8]) -> Option<u32>
 }
 
 /// The value of an optional `-` and such digits.
+#[tactic(auto, unfolding(cif_grammar::specs::Words::limit))]
 fn coordinate_of(field: &[u8]) -> Option<i64>
     ensures { result ≡ coordinate_of_lem field.now }
 {
@@ -134,5 +137,51 @@ fn is_label(text: &[u8]) -> bool
         [b'9', b'4'] => true,
         [b'9', b'4', third, ..] => is_white(*third),
         _ => false,
+    }
+}
+
+/// The label of a name, coordinates and the text behind them.
+fn label_of_tail<'a>(name: &'a [u8], x: &[u8], y: &[u8], rest: &[u8]) -> Option<LabelText<'a>>
+    ensures { option_map label_seen result ≡ label_tail name.now x.now y.now (field_at rest.now) }
+{
+    let layer = match next_field(rest) {
+        None => None,
+        Some((layer, rest)) => {
+            if next_field(rest).is_some() {
+                return None;
+            }
+            Some(Short::new(layer)?)
+        }
+    };
+    let at = Point {
+        x: coordinate_of(x)?,
+        y: coordinate_of(y)?,
+    };
+    if is_name(name) {
+        Some(LabelText { name, at, layer })
+    } else {
+        None
+    }
+}
+
+/// The label of the fields.
+fn label_of_fields(text: &[u8]) -> Option<LabelText<'_>>
+    ensures { option_map label_seen result ≡ label_by_fields text.now }
+{
+    let (_, rest) = next_field(text)?;
+    let (name, rest) = next_field(rest)?;
+    let (x, rest) = next_field(rest)?;
+    let (y, rest) = next_field(rest)?;
+    label_of_tail(name, x, y, rest)
+}
+
+/// The label that a user command says, if it says one.
+pub(crate) fn label_in(text: &[u8]) -> Option<LabelText<'_>>
+    ensures { option_map label_seen result ≡ label_in_lem text.now }
+{
+    if is_label(text) {
+        label_of_fields(text)
+    } else {
+        None
     }
 }

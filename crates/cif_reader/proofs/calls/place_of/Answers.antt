@@ -1,4 +1,4 @@
-use Rattle.std.proofs.Common.{rules, refl, arith, ◌∙◌, ap, map, FitsSigned, w64}
+use Rattle.std.proofs.Common.{rules, refl, arith, ◌∙◌, ap, map, false, FitsSigned, w64, to_z, of_z}
 use Rattle.std.specs.Prelude.{pos}
 use Rattle.std.specs.Int.{w128}
 use Rattle.std.proofs.lemmas.Int.{ints, to_z-of_z}
@@ -24,7 +24,7 @@ returns-clause-place c =
     let ts = map transform_of c.args.transformations.now in
     let dx_is = simp to_z-of_z at c.scaled.ensures.value in
     let dy_is = simp to_z-of_z at c.scaled-2.ensures.value in
-    call_place c.args.scale ts c.turned.result c.then.result _ c.requires.some c.requires.whole c.turned.ensures.place (λ p. refl)
+    call_place c.args.scale ts c.turned.result c.then.result (record { turn = record { swap = false; neg_x = false; neg_y = false }; dx = to_z w64 (of_z w64 c.scaled.result); dy = to_z w64 (of_z w64 c.scaled-2.result) }) c.requires.some c.requires.whole c.turned.ensures.place (λ p. refl)
     (to_z-of_z w64 c.scaled.result dx ∙ dx_is ∙ ap (scaled c.args.scale) c.shift_of-x.ensures.x)
     (to_z-of_z w64 c.scaled-2.result dy ∙ dy_is ∙ ap (scaled c.args.scale) c.shift_of-x.ensures.y)
     c.then.ensures.moves

@@ -9,3 +9,4 @@ pub mod Rows
 pub mod Runs
 pub mod Shorter
 pub mod Texts
+pub mod Walking

@@ -1,5 +1,7 @@
 pub mod Bools
 pub mod Transforming
+pub mod Fields
+pub mod Finding
 pub mod Measures
 pub mod Paths
 pub mod Placing

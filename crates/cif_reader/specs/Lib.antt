@@ -5,3 +5,4 @@ pub mod Measure
 pub mod Faults
 pub mod Reading
 pub mod File
+pub mod Built

@@ -1,13 +1,13 @@
 -- What the code computes step by step, and how far from 0 its numbers lie before the scale, so that its sums fit.
 -- The definitions of what a text says are in the other files.
-use Rattle.std.specs.Prelude.{ℕ, ◌^◌, ◌==◌, not, take, drop, Bool, List, [], ◌∷◌, Option, Some, None, if◌then◌else◌}
+use Rattle.std.specs.Prelude.{ℕ, ℤ, ◌^◌, ◌==◌, not, take, drop, Bool, List, [], ◌∷◌, Option, Some, None, if◌then◌else◌}
 use Rattle.std.specs.List.{list_any, list_all, prefix_len}
 use Rattle.plane_geom.specs.Covering.{is_along}
 use Rattle.plane_geom.specs.Placement.{Step, negate_x, negate_y}
 use Rattle.cif_grammar.specs.declared.spelled.Spot.{Spot}
 use Rattle.cif_grammar.specs.Grammar.{Transform, translate, mirror_x, mirror_y, rotate}
 use Rattle.cif_reader.specs.declared.measure.Scale.{Scale}
-use Rattle.cif_reader.specs.Measure.{point_of, doubled, is_far, is_whole, facing, turns_to}
+use Rattle.cif_reader.specs.Measure.{point_of, doubled, is_far, is_whole, facing, turns_to, has_turns, shift_of}
 use Rattle.plane_geom.specs.Bounds.{IsWithin}
 use Rattle.cif_reader.specs.declared.measure.Corners.{Corners}
 use Rattle.cif_reader.specs.declared.label.LabelText.{LabelText}
@@ -75,3 +75,7 @@ label_by_fields text = do
   x ← field_at name.1
   y ← field_at x.1
   label_tail name.0 x.0 y.0 (field_at y.1)
+
+-- the composed shift of a call that has one
+abbrev pub shift_parts : List Transform → List ℤ
+shift_parts ts = if has_turns ts then (shift_of ts).x ∷ (shift_of ts).y ∷ [] else []

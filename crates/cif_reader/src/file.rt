@@ -2,6 +2,7 @@
 
 use indexmap::IndexMap;
 use plane_geom::{Label, Place, Point, Shape, Short};
+use std::alloc::{AllocError, Global};
 use std::marker::Model;
 
 /// A shape, a call or a label, and where its command stands in the text.
@@ -55,4 +56,79 @@ impl Model for CifFile {
     ghost view = { λ f. record { symbols = values f.symbols; top = f.top.items } };
 
     ghost invariant = { λ f. AreNumbered f.symbols.entries × IsUnique nat_eq f.symbols × IsFile (record { symbols = values f.symbols; top = f.top.items }) };
+}
+
+impl CifFile {
+    ghost use Rattle.std.specs.Prelude.{◌≡◌, List, [], ◌∷◌, ◌++◌, OnOk, IfOk, false, true, length, find, slice_get, option_copied};
+    ghost use Rattle.std.specs.List.{list_any};
+    ghost use Rattle.cif_reader.specs.File.{AreKept, IsKept, IsFile, has_number};
+
+    /// A file of no symbols and no items.
+    pub(crate) fn empty(alloc: Global) -> CifFile
+        ensures { result ≡ record { symbols = []; top = [] } }
+    {
+        CifFile {
+            symbols: IndexMap::new(alloc),
+            top: Vec::new(alloc),
+        }
+    }
+
+    /// Whether a symbol of that number is defined.
+    pub(crate) fn is_defined(&self, number: u32) -> bool
+        ensures { result ≡ list_any (has_number number) self.now.symbols }
+    {
+        self.symbols.contains_key(&number)
+    }
+
+    /// Adds a symbol that is not defined yet.
+    pub(crate) fn define(&mut self, symbol: Symbol) -> Result<(), AllocError>
+        requires another { list_any (has_number symbol.number) self.old.symbols ≡ false }
+        requires kept { AreKept symbol.items.items }
+        ensures symbols { OnOk result (self.new.symbols ≡ self.old.symbols ++ symbol ∷ []) }
+        ensures top { OnOk result (self.new.top ≡ self.old.top) }
+    {
+        self.symbols.insert(symbol.number, symbol)?;
+        Ok(())
+    }
+
+    /// Adds an item outside of symbols.
+    pub(crate) fn add_top(&mut self, item: Item) -> Result<(), AllocError>
+        requires { IsKept item.what }
+        ensures top { OnOk result (self.new.top ≡ self.old.top ++ item ∷ []) }
+        ensures symbols { OnOk result (self.new.symbols ≡ self.old.symbols) }
+    {
+        self.top.push(item)?;
+        Ok(())
+    }
+
+    /// The symbol of that number, or `None` where none has it.
+    pub fn symbol(&self, number: u32) -> Option<&Symbol>
+        ensures { option_copied result ≡ find (has_number number) self.now.symbols }
+    {
+        self.symbols.get(&number)
+    }
+
+    /// The symbol at that place, from 0, in the order of definition: `None` exactly past the last.
+    pub fn symbol_at(&self, place: usize) -> Option<&Symbol>
+        ensures { option_copied result ≡ slice_get self.now.symbols place }
+    {
+        let (_, symbol) = self.symbols.get_index(place)?;
+        Some(symbol)
+    }
+
+    /// How many symbols there are.
+    pub fn symbol_count(&self) -> usize
+        ensures { result ≡ length self.now.symbols }
+    {
+        self.symbols.len()
+    }
+
+    /// The items outside of symbols, in the order of their commands.
+    pub fn top(&self) -> &[Item]
+        ensures same { result.now ≡ self.now.top }
+        // Shapes are well formed, all coordinates are within ±2147483647, and no two symbols have one number.
+        ensures kept { IsFile self.now }
+    {
+        self.top.as_slice()
+    }
 }

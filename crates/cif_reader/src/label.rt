@@ -130,7 +130,7 @@ fn is_name(field: &[u8]) -> bool
 }
 
 /// Whether a user command is a label.
-fn is_label(text: &[u8]) -> bool
+pub(crate) fn is_label(text: &[u8]) -> bool
     ensures { result ≡ is_label_lem text.now }
 {
     match text {

@@ -7,10 +7,12 @@
 //! The flattening of calls and the extraction of nets stand on it.
 #![tactic(auto)]
 
+mod builder;
 mod calls;
 mod facing;
 mod file;
 
+mod judge;
 mod label;
 mod measure;
 mod path;

@@ -183,6 +183,14 @@ pub(crate) fn doubled_value(number: Signed) -> i128
     2 * value_of(number)
 }
 
+/// Twice a coordinate: so many mask units before the scale.
+pub(crate) fn twice(coordinate: i64) -> i128
+    ensures value { result ≡ pos 2 *ℤ coordinate }
+    ensures near { IsWithin (2 ^ 65) result }
+{
+    2 * i128::from(coordinate)
+}
+
 /// The same, of a number within the limit.
 #[tactic(auto, unfolding(cif_grammar::specs::Words::limit))]
 pub(crate) fn small_value(number: Signed) -> i64

@@ -9,7 +9,7 @@ use Rattle.cif_reader.specs.declared.file.What.{What}
 use Rattle.cif_reader.specs.Measure.{is_far, is_whole, scaled, scaled_point, scaled_rect, box_corners, points_along, gridded, reached}
 use Rattle.cif_reader.specs.Faults.{is_large, numbers, goes_far, is_manhattan}
 use Rattle.cif_reader.specs.Label.{Label, label_in}
-use Rattle.cif_reader.specs.Reading.{Saying, IsSaid, drawn, marked}
+use Rattle.cif_reader.specs.Reading.{Saying, IsSaid, on_layer}
 
 -- The command has none of the faults of its numbers.
 pub record IsFine (s : Scale) (c : Command) : Type 0 where
@@ -30,3 +30,11 @@ figure_said s (box l w c d) = Some (block (scaled_rect s (box_corners l.value w.
 figure_said s (polygon p) = Some (outlined (map (scaled_point s) (points_along p)))
 figure_said s (wire w p) = Some (drawn_along (scaled s (pos w.value)) (map (scaled_point s) (points_along p)))
 figure_said s _ = None
+
+-- what a box, a polygon or a wire says on a layer
+abbrev pub said_on : Option (List ℕ) → Option Figure → List Saying
+said_on current None = []
+said_on current (Some figure) = on_layer current figure
+
+abbrev pub said_drawn : Option (List ℕ) → Scale → Command → List Saying
+said_drawn current s c = said_on current (figure_said s c)

@@ -2,6 +2,7 @@ pub mod Bools
 pub mod Transforming
 pub mod Fields
 pub mod Finding
+pub mod Keeping
 pub mod Measures
 pub mod Numbered
 pub mod Paths

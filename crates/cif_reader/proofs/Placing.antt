@@ -108,7 +108,7 @@ neg_times a c = grind (arith, ints)
 not_less : (n : ℕ) → int_lt (pos n) (pos 0) ≡ false
 not_less n = grind (arith, nat_tests, ints)
 
-scaled_pos : (s : Scale) (n : ℕ) → scaled s (pos n) ≡ pos (n * s.a / s.b)
+pub scaled_pos : (s : Scale) (n : ℕ) → scaled s (pos n) ≡ pos (n * s.a / s.b)
 scaled_pos s n = ap (λ t. if t then neg_ℤ (pos (n * s.a / s.b)) else pos (n * s.a / s.b)) (not_less n)
 
 whole_parts : (m b : ℕ) → (m % b == 0) ≡ true → m / b * b ≡ m

@@ -7,15 +7,17 @@ ghost use Rattle.plane_geom.specs.Covering.{figure_of};
 ghost use Rattle.cif_grammar.specs.Grammar.{Placed, Command as Spelled, finish, start, layer as layer_lem, may_stand, is_inside};
 ghost use Rattle.cif_grammar.specs.Seen.{seen};
 ghost use Rattle.std.specs.Prelude.{map};
-ghost use Rattle.cif_grammar.specs.Grammar.{call};
+ghost use Rattle.cif_grammar.specs.Grammar.{call, user};
 ghost use Rattle.cif_grammar.specs.Seen.{transform_of};
 ghost use Rattle.cif_reader.specs.Label.{label_in as label_in_lem};
 ghost use Rattle.cif_reader.specs.Measure.{scaled, steps_of, doubled, is_far as is_far_lem, scaled_point as scaled_point_lem};
 ghost use Rattle.plane_geom.specs.Bounds.{IsPointWithin};
 ghost use Rattle.cif_grammar.specs.Words.{limit};
+ghost use Rattle.std.specs.Prelude.{◌^◌};
+ghost use Rattle.cif_reader.specs.Scope.{scale_in, scale_of as scale_of_lem};
 ghost use Rattle.cif_reader.specs.Reading.{said, labelled, called, IsSaid};
 ghost use Rattle.cif_reader.specs.File.{IsKept, has_number};
-ghost use Rattle.cif_reader.specs.Built.{IsFine, IsSaidBy, figure_said, said_drawn};
+ghost use Rattle.cif_reader.specs.Built.{IsFine, IsSaidBy, figure_said, said_drawn, IsScaleSmall, IsBuilt, IsSound, IsClosed, opening_of, items_in, opens, grown_in, grown_outside, may_stand_in};
 
 use crate::calls::place_of;
 use crate::file::{CifFile, Item, Symbol, What};
@@ -92,7 +94,7 @@ fn scaled_mark(scale: Scale, at: Point) -> Point
 /// What a label says, if the text is one.
 fn mark_what(alloc: Global, scale: Scale, text: &[u8]) -> Result<Option<What>, AllocError>
     requires some { 0 < scale.b }
-    requires fine { IsFine scale (seen (Command.User text.entry)) }
+    requires fine { IsFine scale (user text.now) }
     ensures said { IfOk result (λ what. IsSaidBy what (labelled scale (label_in_lem text.now))) }
     ensures kept { IfOk result (λ what. IfSome what IsKept) }
 {
@@ -139,5 +141,152 @@ fn what_of(
         } => Ok(Some(call_what(scale, *symbol, transformations))),
         Command::User(text) => mark_what(alloc, scale, text),
         command => drawn_what(alloc, layer, scale, command),
+    }
+}
+
+/// A definition that is open.
+#[derive(Debug, Drop)]
+pub(crate) struct Open {
+    pub number: u32,
+    pub pos: u64,
+    pub scale: Scale,
+    pub items: Vec<Item>,
+}
+
+/// What is known behind the commands that were read.
+#[derive(Debug, Drop)]
+pub(crate) struct Builder {
+    /// The current layer.
+    pub layer: Option<Short>,
+    /// The layer from before the last start.
+    pub outer: Option<Short>,
+    pub open: Option<Open>,
+    pub file: CifFile,
+}
+
+/// The scale of a start.
+fn scale_of(scale: Option<(Number, Number)>) -> Scale
+    requires { IsScaleSmall scale }
+    ensures { result ≡ scale_of_lem scale }
+{
+    match scale {
+        None => PLAIN,
+        Some((a, b)) => Scale {
+            a: a.value as u32,
+            b: b.value as u32,
+        },
+    }
+}
+
+impl Builder {
+    /// The state before the first command.
+    pub(crate) fn new(alloc: Global) -> Builder
+        ensures { IsBuilt [] result }
+    {
+        Builder {
+            layer: None,
+            outer: None,
+            open: None,
+            file: CifFile::empty(alloc),
+        }
+    }
+
+    /// Whether a definition is open.
+    pub(crate) fn is_inside(&self) -> bool
+        ensures { result ≡ is_some (opening_of self.now.open) }
+    {
+        self.open.is_some()
+    }
+
+    /// The scale of the open definition.
+    pub(crate) fn scale(&self) -> Scale
+        ensures { result ≡ scale_in (opening_of self.now.open) }
+    {
+        match &self.open {
+            Some(open) => open.scale,
+            None => PLAIN,
+        }
+    }
+
+    /// Whether a symbol of that number is defined or open.
+    fn is_known(&self, number: u64) -> bool
+        requires { number < 2 ^ 32 }
+        ensures { result ≡ (list_any (has_number number) self.now.file.symbols || opens number (opening_of self.now.open)) }
+    {
+        if self.file.is_defined(number as u32) {
+            return true;
+        }
+        match &self.open {
+            Some(open) => u64::from(open.number) == number,
+            None => false,
+        }
+    }
+
+    /// Starts a definition.
+    fn start(&mut self, alloc: Global, pos: u64, number: u32, scale: Scale)
+        ensures layer { self.new.layer ≡ None }
+        ensures outer { self.new.outer ≡ self.old.layer }
+        ensures opening { opening_of self.new.open ≡ Some (record { at = pos; symbol = number; scale = scale }) }
+        ensures items { items_in self.new.open ≡ [] }
+        ensures file { self.new.file ≡ self.old.file }
+    {
+        self.outer = self.layer;
+        self.layer = None;
+        self.open = Some(Open {
+            number,
+            pos,
+            scale,
+            items: Vec::new(alloc),
+        });
+    }
+
+    /// Finishes the open definition.
+    fn finish(&mut self) -> Result<(), AllocError>
+        requires { IsSound self.old }
+        ensures layer { OnOk result (self.new.layer ≡ self.old.outer) }
+        ensures outer { OnOk result (self.new.outer ≡ self.old.outer) }
+        ensures opening { OnOk result (opening_of self.new.open ≡ None) }
+        ensures top { OnOk result (self.new.file.top ≡ self.old.file.top) }
+        ensures symbols { OnOk result (IsClosed (opening_of self.old.open) (items_in self.old.open) self.old.file.symbols self.new.file.symbols) }
+    {
+        self.layer = self.outer;
+        let Some(open) = self.open.take() else {
+            return Ok(());
+        };
+        self.file.define(Symbol {
+            number: open.number,
+            pos: open.pos,
+            items: open.items,
+        })
+    }
+
+    /// Adds an item.
+    fn push(&mut self, item: Item) -> Result<(), AllocError>
+        requires { IsKept item.what }
+        ensures layer { self.new.layer ≡ self.old.layer }
+        ensures outer { self.new.outer ≡ self.old.outer }
+        ensures opening { OnOk result (opening_of self.new.open ≡ opening_of self.old.open) }
+        ensures inside { OnOk result (items_in self.new.open ≡ grown_in self.old.open item) }
+        ensures symbols { OnOk result (self.new.file.symbols ≡ self.old.file.symbols) }
+        ensures top { OnOk result (self.new.file.top ≡ grown_outside self.old.open self.old.file.top item) }
+    {
+        match &mut self.open {
+            Some(open) => {
+                open.items.push(item)?;
+                Ok(())
+            }
+            None => self.file.add_top(item),
+        }
+    }
+
+    /// Whether the command may stand here: a definition starts outside of one, and finishes inside.
+    pub(crate) fn may_stand(&self, command: &Command<'_>) -> bool
+        ensures { result ≡ may_stand_in (is_some (opening_of self.now.open)) (seen command.now) }
+    {
+        match command {
+            Command::Start { .. } => !self.is_inside(),
+            Command::Finish => self.is_inside(),
+            _ => true,
+        }
     }
 }

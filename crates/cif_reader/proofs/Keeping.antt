@@ -1,5 +1,5 @@
 -- What every file keeps, of commands without fault.
-use Rattle.std.proofs.Common.{◌≡◌, ℕ, suc, ◌+◌, ◌*◌, ◌/◌, ◌<◌, ◌≤◌, Bool, true, false, ◌||◌, ◌&&◌, List, [], ◌∷◌, ◌++◌, map, length, refl, sym, ap, subst, ◌∙◌, arith}
+use Rattle.std.proofs.Common.{◌≡◌, ℕ, zero, get_or, suc, ◌+◌, ◌*◌, ◌/◌, ◌<◌, ◌≤◌, Bool, true, false, ◌||◌, ◌&&◌, List, [], ◌∷◌, ◌++◌, map, length, refl, sym, ap, subst, ◌∙◌, arith}
 use Rattle.std.specs.Prelude.{ℤ, pos, negsuc, neg_ℤ, ◌+ℤ◌, ◌-ℤ◌, ◌*ℤ◌, ◌≤ℤ◌, if◌then◌else◌, nat_abs, flat_map, Option, Some, None, nat_lt}
 use Rattle.std.specs.List.{list_any, list_all, All, AllByRecursion}
 use Rattle.std.specs.Ordering.{int_eq}
@@ -121,3 +121,49 @@ outline_scaled s p ps h =
 segments_scaled : (s : Scale) (p : Point) (ps : List Point) → list_all is_along (segments (p ∷ ps)) ≡ true → list_all is_along (segments (map (scaled_point s) (p ∷ ps))) ≡ true
 segments_scaled s p [] h = ap (λ t. t && true) (along_scaled s p p (and_left (is_along (p, p)) true h))
 segments_scaled s p (q ∷ qs) h = edges_scaled s p (q ∷ qs) h
+
+-- ---- figures
+
+all_held : {X : Type 0} (P : X → Type 0) (xs : List X) → AllByRecursion P xs → All P xs
+all_held P [] h = λ k d lt. absurd (omega arith)
+all_held P (x ∷ xs) h = λ k d lt. held k d lt (all_held P xs h.1) where
+  held : (k : ℕ) (d : X) → k < length (x ∷ xs) → All P xs → P (get_or (x ∷ xs) k d)
+  held zero d lt rest = h.0
+  held (suc k) d lt rest = rest k d (omega arith)
+
+-- the figure, by its cases
+record Kept (figure : Figure) : Type 0 where
+  formed : IsWellFormed figure
+  within : IsFigureWithin limit figure
+
+some_same : {X : Type 0} (x y : X) → Some x ≡ Some y → x ≡ y
+some_same x y h = cc
+
+path_some : (s : Scale) (p : Point) (ps : List Point) → 0 < length (map (scaled_point s) (p ∷ ps))
+path_some s p ps = omega arith
+
+thick_scaled : (s : Scale) (n : ℕ) → pos 0 ≤ℤ scaled s (pos n)
+thick_scaled s n = rw (scaled_pos s n) (omega (arith, ints))
+
+by_case : (s : Scale) (c : Command) (figure : Figure) → 0 < s.b → IsFine s c → Some figure ≡ figure_said s c → Kept figure
+by_case s (box l w c d) figure some fine e = subst Kept (sym (some_same _ _ e)) (record { formed = box_case l.value w.value (point_of c) s (is_upright d) some; within = box_within s (box_corners l.value w.value c d) fine.near })
+by_case s (polygon p) figure some fine e =
+    subst Kept (sym (some_same _ _ e)) (record {
+      formed = record { some = path_some s (point_of p.first) (map point_of p.others); along = outline_scaled s (point_of p.first) (map point_of p.others) fine.straight };
+      within = all_held (IsPointWithin limit) (map (scaled_point s) (points_along p)) (points_near s (points_along p) fine.near);
+    })
+by_case s (wire w p) figure some fine e =
+    subst Kept (sym (some_same _ _ e)) (record {
+      formed = record { some = path_some s (point_of p.first) (map point_of p.others); along = segments_scaled s (point_of p.first) (map point_of p.others) fine.straight; thick = thick_scaled s w.value };
+      within = (scaled_within s (pos w.value) (or_left (is_far s (pos w.value)) _ fine.near), all_held (IsPointWithin limit) (map (scaled_point s) (points_along p)) (points_near s (points_along p) (or_right (is_far s (pos w.value)) _ fine.near)));
+    })
+by_case s (layer name) figure some fine e = cc
+by_case s (call n ts) figure some fine e = cc
+by_case s (user text) figure some fine e = cc
+by_case s comment figure some fine e = cc
+by_case s (start n t) figure some fine e = cc
+by_case s finish figure some fine e = cc
+
+-- What a drawn command says is well formed and near.
+pub figure_kept : (s : Scale) (c : Command) (shape : Shape) → 0 < s.b → IsFine s c → Some (figure_of shape) ≡ figure_said s c → IsDrawn shape
+figure_kept s c shape some fine e = let k = by_case s c (figure_of shape) some fine e in record { formed = k.formed; within = k.within }

@@ -1,5 +1,7 @@
 pub mod Bools
 pub mod Transforming
+pub mod Building
+pub mod Closing
 pub mod Fields
 pub mod Finding
 pub mod Keeping
@@ -7,3 +9,4 @@ pub mod Measures
 pub mod Numbered
 pub mod Paths
 pub mod Placing
+pub mod Steps

@@ -70,7 +70,7 @@ grown_outside (Some o) top item = top
 
 abbrev pub opens : ℕ → Option Opening → Bool
 opens number None = false
-opens number (Some o) = o.symbol == number
+opens number (Some o) = number == o.symbol
 
 abbrev pub may_stand_in : Bool → Command → Bool
 may_stand_in inside (start n s) = not inside
@@ -98,3 +98,10 @@ pub record IsBuilt (before : List Placed) (b : Builder) : Type 0 where
   pub top : AreSaid b.file.top (said_outside before)
   pub starts : (n : ℕ) → list_any (starts n) before ≡ (list_any (has_number n) b.file.symbols || opens n (opening_of b.open))
   pub sound : IsSound b
+
+-- It is no `L`, no `DS` and no `DF`.
+abbrev pub is_bare : Command → Bool
+is_bare (layer name) = false
+is_bare (start n s) = false
+is_bare finish = false
+is_bare _ = true

@@ -78,7 +78,7 @@ is_drawn (wire w p) = true
 is_drawn _ = false
 
 abbrev pub starts : ℕ → Placed → Bool
-starts number c = elim c.what [ | start n s ↦ n.value == number | _ ↦ false ]
+starts number c = elim c.what [ | start n s ↦ number == n.value | _ ↦ false ]
 
 -- It defines a symbol that was defined before.
 abbrev pub is_twice : List Placed → Command → Bool

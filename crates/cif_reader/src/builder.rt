@@ -14,16 +14,19 @@ ghost use Rattle.cif_reader.specs.Measure.{scaled, steps_of, doubled, is_far as 
 ghost use Rattle.plane_geom.specs.Bounds.{IsPointWithin};
 ghost use Rattle.cif_grammar.specs.Words.{limit};
 ghost use Rattle.std.specs.Prelude.{◌^◌};
+ghost use Rattle.cif_reader.specs.Faults.{fault_of, large_number, is_twice as is_twice_lem};
 ghost use Rattle.cif_reader.specs.Scope.{scale_in, scale_of as scale_of_lem};
 ghost use Rattle.cif_reader.specs.Reading.{said, labelled, called, IsSaid};
 ghost use Rattle.cif_reader.specs.File.{IsKept, has_number};
-ghost use Rattle.cif_reader.specs.Built.{IsFine, IsSaidBy, figure_said, said_drawn, IsScaleSmall, IsBuilt, IsSound, IsClosed, opening_of, items_in, opens, grown_in, grown_outside, may_stand_in};
+ghost use Rattle.cif_reader.specs.Built.{is_bare, IsFine, IsSaidBy, figure_said, said_drawn, IsScaleSmall, IsBuilt, IsSound, IsClosed, opening_of, items_in, opens, grown_in, grown_outside, may_stand_in};
 
 use crate::calls::place_of;
 use crate::file::{CifFile, Item, Symbol, What};
+use crate::judge::judge;
 use crate::label::label_in;
 use crate::measure::{PLAIN, Scale, box_corners, twice};
 use crate::path::scaled_path;
+use crate::refusal::CifRefusal;
 use cif_grammar::{Command, Number, Transformation};
 use plane_geom::{Label, Point, Shape, Short};
 use std::alloc::{AllocError, Global};
@@ -165,15 +168,16 @@ pub(crate) struct Builder {
 }
 
 /// The scale of a start.
+#[tactic(auto, unfolding(cif_grammar::specs::Words::limit))]
 fn scale_of(scale: Option<(Number, Number)>) -> Scale
     requires { IsScaleSmall scale }
     ensures { result ≡ scale_of_lem scale }
 {
     match scale {
         None => PLAIN,
-        Some((a, b)) => Scale {
-            a: a.value as u32,
-            b: b.value as u32,
+        Some(parts) => Scale {
+            a: parts.0.value as u32,
+            b: parts.1.value as u32,
         },
     }
 }
@@ -209,15 +213,14 @@ impl Builder {
     }
 
     /// Whether a symbol of that number is defined or open.
-    fn is_known(&self, number: u64) -> bool
-        requires { number < 2 ^ 32 }
+    fn is_known(&self, number: u32) -> bool
         ensures { result ≡ (list_any (has_number number) self.now.file.symbols || opens number (opening_of self.now.open)) }
     {
-        if self.file.is_defined(number as u32) {
+        if self.file.is_defined(number) {
             return true;
         }
         match &self.open {
-            Some(open) => u64::from(open.number) == number,
+            Some(open) => number == open.number,
             None => false,
         }
     }
@@ -288,5 +291,58 @@ impl Builder {
             Command::Finish => self.is_inside(),
             _ => true,
         }
+    }
+
+    /// Adds what a command other than `L`, `DS` and `DF` says.
+    fn say(&mut self, alloc: Global, pos: u64, command: &Command<'_>) -> Result<(), AllocError>
+        requires sound { IsSound self.old }
+        requires fine { IsFine (scale_in (opening_of self.old.open)) (seen command.now) }
+        ensures { (before : List Placed) → IsBuilt before self.old → is_bare (seen command.now) ≡ true → OnOk result (IsBuilt (record { at = pos; what = seen command.now } ∷ before) self.new) }
+    {
+        let scale = self.scale();
+        match what_of(alloc, &self.layer, scale, command)? {
+            None => Ok(()),
+            Some(what) => self.push(Item { pos, what }),
+        }
+    }
+
+    /// Adds a command without fault.
+    pub(crate) fn add(&mut self, alloc: Global, pos: u64, command: Command<'_>) -> Result<(), AllocError>
+        requires sound { IsSound self.old }
+        requires fine { IsFine (scale_in (opening_of self.old.open)) (seen command) }
+        ensures { (before : List Placed) → IsBuilt before self.old → may_stand before (seen command) ≡ true → fault_of before (record { at = pos; what = seen command }) ≡ None → OnOk result (IsBuilt (record { at = pos; what = seen command } ∷ before) self.new) }
+    {
+        match command {
+            Command::Layer(layer) => {
+                self.layer = Some(layer);
+                Ok(())
+            }
+            Command::Start { symbol, scale } => {
+                self.start(alloc, pos, symbol.value as u32, scale_of(scale));
+                Ok(())
+            }
+            Command::Finish => self.finish(),
+            command => self.say(alloc, pos, &command),
+        }
+    }
+
+    /// Whether the command defines a symbol that was defined before.
+    fn is_twice(&self, command: &Command<'_>) -> bool
+        ensures { (before : List Placed) → IsBuilt before self.now → large_number (seen command.now) ≡ None → result ≡ is_twice_lem before (seen command.now) }
+    {
+        match command {
+            Command::Start { symbol, .. } => {
+                symbol.value <= u64::from(u32::MAX) && self.is_known(symbol.value as u32)
+            }
+            _ => false,
+        }
+    }
+
+    /// The first fault of a command at a position.
+    pub(crate) fn judge(&self, pos: u64, command: &Command<'_>) -> Option<CifRefusal>
+        requires { IsSound self.now }
+        ensures { (before : List Placed) → IsBuilt before self.now → result ≡ fault_of before (record { at = pos; what = seen command.now }) }
+    {
+        judge(&self.layer, self.scale(), self.is_twice(command), pos, command)
     }
 }

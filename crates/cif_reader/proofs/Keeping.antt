@@ -124,12 +124,13 @@ segments_scaled s p (q ∷ qs) h = edges_scaled s p (q ∷ qs) h
 
 -- ---- figures
 
+held_at : {X : Type 0} (P : X → Type 0) (x : X) (xs : List X) (k : ℕ) (d : X) → P x → All P xs → k < length (x ∷ xs) → P (get_or (x ∷ xs) k d)
+held_at P x xs zero d h rest lt = h
+held_at P x xs (suc k) d h rest lt = rest k d (omega arith)
+
 all_held : {X : Type 0} (P : X → Type 0) (xs : List X) → AllByRecursion P xs → All P xs
-all_held P [] h = λ k d lt. absurd (omega arith)
-all_held P (x ∷ xs) h = λ k d lt. held k d lt (all_held P xs h.1) where
-  held : (k : ℕ) (d : X) → k < length (x ∷ xs) → All P xs → P (get_or (x ∷ xs) k d)
-  held zero d lt rest = h.0
-  held (suc k) d lt rest = rest k d (omega arith)
+all_held {X} P [] h = λ (k : ℕ) (d : X) (lt : k < length {A = X} []). absurd (omega arith)
+all_held {X} P (x ∷ xs) h = λ (k : ℕ) (d : X). held_at P x xs k d h.0 (all_held P xs h.1)
 
 -- the figure, by its cases
 record Kept (figure : Figure) : Type 0 where

@@ -310,7 +310,7 @@ impl Builder {
     pub(crate) fn add(&mut self, alloc: Global, pos: u64, command: Command<'_>) -> Result<(), AllocError>
         requires sound { IsSound self.old }
         requires fine { IsFine (scale_in (opening_of self.old.open)) (seen command) }
-        ensures { (before : List Placed) → IsBuilt before self.old → may_stand before (seen command) ≡ true → fault_of before (record { at = pos; what = seen command }) ≡ None → OnOk result (IsBuilt (record { at = pos; what = seen command } ∷ before) self.new) }
+        ensures { (before : List Placed) → IsBuilt before self.old → may_stand before (seen command.entry) ≡ true → fault_of before (record { at = pos; what = seen command.entry }) ≡ None → OnOk result (IsBuilt (record { at = pos; what = seen command.entry } ∷ before) self.new) }
     {
         match command {
             Command::Layer(layer) => {

@@ -9,4 +9,6 @@ pub mod Measures
 pub mod Numbered
 pub mod Paths
 pub mod Placing
+pub mod Reaching
+pub mod Starting
 pub mod Steps

@@ -1,5 +1,7 @@
 -- The state of the reader behind the commands that it has read.
-use Rattle.std.specs.Prelude.{◌≡◌, ℕ, ◌<◌, ◌≤◌, ◌==◌, ◌++◌, pos, Bool, true, false, not, ◌&&◌, ◌||◌, is_some, List, [], ◌∷◌, map, flat_map, Option, Some, None}
+use Rattle.std.specs.Prelude.{◌≡◌, ℕ, ◌<◌, ◌≤◌, ◌==◌, ◌++◌, pos, Bool, true, false, not, ◌&&◌, ◌||◌, is_some, List, [], ◌∷◌, map, flat_map, Option, Some, None, if◌then◌else◌}
+use Rattle.std.specs.Option.{option_and_then}
+use Rattle.cif_grammar.specs.Readers.{command_at}
 use Rattle.std.specs.List.{list_any, list_all}
 use Rattle.plane_geom.specs.Covering.{Figure, block, polygon as outlined, wire as drawn_along}
 use Rattle.cif_grammar.specs.Grammar.{Command, box, polygon, wire, layer, call, user, comment, start, finish, Placed}
@@ -105,3 +107,10 @@ is_bare (layer name) = false
 is_bare (start n s) = false
 is_bare finish = false
 is_bare _ = true
+
+-- the next command, if it may stand
+abbrev pub if_standing : Bool → Command × List ℕ → Option (Command × List ℕ)
+if_standing inside c = if may_stand_in inside c.0 then Some c else None
+
+unfoldable pub standing_at : Bool → ℕ → List ℕ → Option (Command × List ℕ)
+standing_at inside total bytes = option_and_then (if_standing inside) (command_at total bytes)

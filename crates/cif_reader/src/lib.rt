@@ -16,7 +16,9 @@ mod judge;
 mod label;
 mod measure;
 mod path;
+mod reading;
 mod refusal;
 
 pub use file::{CifFile, Item, Symbol, What};
+pub use reading::read;
 pub use refusal::{CifRefusal, Feature};

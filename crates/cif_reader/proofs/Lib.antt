@@ -1,3 +1,4 @@
+pub mod Answering
 pub mod Bools
 pub mod Transforming
 pub mod Building

@@ -9,10 +9,11 @@ use Rattle.cif_grammar.specs.Readers.{skip, command_at}
 use Rattle.cif_grammar.proofs.Walking.{walk, walk_more, walk_takes, stuck_none, stuck_barred, longest_here, command_shorter}
 use Rattle.cif_reader.specs.declared.refusal.CifRefusal.{CifRefusal}
 use Rattle.cif_reader.specs.declared.builder.Builder.{Builder}
-use Rattle.cif_reader.specs.Faults.{first_fault, fault_of, end_fault, is_delete, FaultAt, FaultBehind, Refuses}
+use Rattle.cif_reader.specs.Faults.{is_twice, first_fault, fault_of, end_fault, is_delete, FaultAt, FaultBehind, Refuses}
 use Rattle.cif_reader.specs.Reading.{Accepts}
-use Rattle.cif_reader.specs.Built.{IsBuilt, opening_of, may_stand_in, if_standing, standing_at}
-use Rattle.cif_reader.proofs.Steps.{built_inside, may_stand_is}
+use Rattle.cif_reader.specs.Scope.{layer_behind, scale_behind, scale_in}
+use Rattle.cif_reader.specs.Built.{IsFine, IsBuilt, opening_of, may_stand_in, if_standing, standing_at}
+use Rattle.cif_reader.proofs.Steps.{built_inside, may_stand_is, faultless}
 
 -- The commands up to the rest have no fault, and the state is theirs.
 pub record Reached (text rest : List ℕ) (b : Builder) : Type 0 where
@@ -147,3 +148,7 @@ accepted_here text rest b r is =
       symbols = r.built.symbols;
       top = r.built.top;
     }
+
+pub fine_here : (text rest : List ℕ) (b : Builder) (c : Command) (r : Reached text rest b) → fault_of r.commands (record { at = length text - length rest; what = c }) ≡ None → IsFine (scale_in (opening_of b.open)) c
+fine_here text rest b c r h =
+    subst (λ o. IsFine (scale_in o) c) (sym r.built.opening) (faultless (layer_behind r.commands) (scale_behind r.commands) (is_twice r.commands c) (record { at = length text - length rest; what = c }) h).fine

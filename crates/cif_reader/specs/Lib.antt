@@ -6,3 +6,4 @@ pub mod Faults
 pub mod Reading
 pub mod File
 pub mod Built
+pub mod Same

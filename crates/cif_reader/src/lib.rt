@@ -14,11 +14,15 @@ mod file;
 
 mod judge;
 mod label;
+mod laws;
 mod measure;
 mod path;
 mod reading;
 mod refusal;
+#[cfg(test)]
+mod tests;
 
 pub use file::{CifFile, Item, Symbol, What};
+pub use laws::one_answer;
 pub use reading::read;
 pub use refusal::{CifRefusal, Feature};

@@ -38,6 +38,7 @@ fn end_fault(inside: bool, pos: u64, bytes: &[u8]) -> Option<CifRefusal>
 }
 
 /// The next command, if it may stand here, and what stands behind it.
+#[tactic(auto, unfolding(crate::specs::Built::standing_at))]
 fn next_standing<'a>(
     alloc: Global,
     builder: &Builder,

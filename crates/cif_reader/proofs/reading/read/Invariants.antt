@@ -2,8 +2,8 @@ use Rattle.std.proofs.Common.{length}
 use Rattle.cif_reader.proofs.Reaching.{Reached}
 use Rattle.cif_reader.proofs.reading.read.Given as goal
 
-abbrev pub invariant-loop-command : goal.invariant-loop-command
-invariant-loop-command l = Reached l.bytes l.rest l.builder
+abbrev pub invariant-loop-builder : goal.invariant-loop-builder
+invariant-loop-builder l = Reached l.bytes l.rest l.builder
 
-abbrev pub decreases-loop-command : goal.decreases-loop-command
-decreases-loop-command l = length l.rest
+abbrev pub decreases-loop-builder : goal.decreases-loop-builder
+decreases-loop-builder l = length l.rest

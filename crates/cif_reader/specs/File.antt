@@ -1,24 +1,51 @@
 -- What every CIF file keeps.
-use Rattle.std.specs.Prelude.{ℕ}
+use Rattle.std.specs.Prelude.{◌≡◌, ℕ, Bool, false, ◌==◌, List, [], ◌∷◌}
+use Rattle.std.specs.List.{list_any, AllByRecursion}
 use Rattle.plane_geom.specs.declared.shapes.Shape.{Shape}
 use Rattle.plane_geom.specs.Bounds.{IsPointWithin}
+use Rattle.plane_geom.specs.Placement.{IsShiftWithin}
 use Rattle.plane_geom.specs.Covering.{figure_of, IsWellFormed, IsFigureWithin}
+use Rattle.cif_grammar.specs.Words.{limit}
 use Rattle.cif_reader.specs.declared.file.Item.{Item}
+use Rattle.cif_reader.specs.declared.file.Symbol.{Symbol}
 use Rattle.cif_reader.specs.declared.file.What.{What}
-use Rattle.cif_reader.specs.declared.file.What.TheVariants.{Draw, Mark}
+use Rattle.cif_reader.specs.declared.file.What.TheVariants.{Draw, Call, Mark}
 
--- the greatest number of a CIF file
-abbrev pub limit : ℕ
-limit = 2147483647
+-- The symbols in order of definition, and the items outside of symbols.
+pub record Contents : Type 0 where
+  pub symbols : List Symbol
+  pub top : List Item
 
--- The shape is well formed, and its coordinates are within the limit.
+-- The shape is well formed, and its coordinates and half width are within the limit.
 pub record IsDrawn (shape : Shape) : Type 0 where
   pub formed : IsWellFormed (figure_of shape)
   pub within : IsFigureWithin limit (figure_of shape)
 
-abbrev pub IsWhat : What → Type 0
-IsWhat (Draw on shape) = IsDrawn shape
-IsWhat (Mark name at on) = IsPointWithin limit at
+abbrev pub IsKept : What → Type 0
+IsKept (Draw on shape) = IsDrawn shape
+IsKept (Call symbol place) = IsShiftWithin limit place
+IsKept (Mark name at on) = IsPointWithin limit at
 
-abbrev pub IsItem : Item → Type 0
-IsItem item = IsWhat item.what
+abbrev pub AreKept : List Item → Type 0
+AreKept items = AllByRecursion (λ (item : Item). IsKept item.what) items
+
+abbrev pub AreAllKept : List Symbol → Type 0
+AreAllKept symbols = AllByRecursion (λ (symbol : Symbol). AreKept symbol.items.items) symbols
+
+abbrev pub has_number : ℕ → Symbol → Bool
+has_number number symbol = number == symbol.number
+
+-- No two symbols have one number.
+abbrev pub AreApart : List Symbol → Type 0
+AreApart [] = Unit {0}
+AreApart (symbol ∷ symbols) = (list_any (has_number symbol.number) symbols ≡ false) × AreApart symbols
+
+-- What a file keeps.
+pub record IsFile (file : Contents) : Type 0 where
+  pub symbols : AreAllKept file.symbols
+  pub top : AreKept file.top
+  pub apart : AreApart file.symbols
+
+-- each symbol under its number
+abbrev pub AreNumbered : List (ℕ × Symbol) → Type 0
+AreNumbered entries = AllByRecursion (λ (e : ℕ × Symbol). e.0 ≡ e.1.number) entries

@@ -1,5 +1,9 @@
-pub mod File
-pub mod Grammar
-pub mod Readers
+pub mod Near
+pub mod Scope
+pub mod Label
+pub mod Measure
+pub mod Faults
 pub mod Reading
-pub mod Seen
+pub mod File
+pub mod Built
+pub mod Same

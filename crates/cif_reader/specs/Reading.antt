@@ -1,74 +1,104 @@
--- The file that commands spell, in mask units. A mask unit is half a hundredth of a micron, so a distance d is
--- 2 d mask units, and half of it is d.
-use Rattle.std.specs.Prelude.{◌≡◌, ℕ, ◌+◌, ℤ, pos, ◌+ℤ◌, ◌-ℤ◌, ◌*ℤ◌, ◌<ℤ◌, ◌⊎◌, Bool, true, false, IsTrue, List, [], ◌∷◌, ◌++◌, length, Option, Some, None}
+-- The file that commands without fault say, in mask units.
+use Rattle.std.specs.Prelude.{◌≡◌, ◌⊎◌, ℕ, pos, Bool, true, false, List, [], ◌∷◌, ◌++◌, map, Option, Some, None, if◌then◌else◌}
 use Rattle.plane_geom.specs.declared.shapes.Point.{Point}
-use Rattle.plane_geom.specs.declared.shapes.Rect.{Rect}
-use Rattle.plane_geom.specs.declared.shapes.Shape.TheVariants.{Block}
-use Rattle.plane_geom.specs.Bounds.{IsPointWithin, IsRectWithin}
+use Rattle.plane_geom.specs.Covering.{Figure, block, polygon as outlined, wire as drawn_along, figure_of}
+use Rattle.plane_geom.specs.Placement.{Step, IsPlaceOf}
+use Rattle.cif_grammar.specs.Grammar.{Points, Command, box, polygon, wire, layer, call, user, comment, start, finish, Placed, Spells, is_inside}
+use Rattle.cif_reader.specs.declared.measure.Scale.{Scale}
 use Rattle.cif_reader.specs.declared.file.Item.{Item}
+use Rattle.cif_reader.specs.declared.file.Symbol.{Symbol}
 use Rattle.cif_reader.specs.declared.file.What.{What}
-use Rattle.cif_reader.specs.declared.file.What.TheVariants.{Draw, Mark}
-use Rattle.cif_reader.specs.Grammar.{Command, layer, box, label, metal, is_name, command_text, Spells}
+use Rattle.cif_reader.specs.declared.file.What.TheVariants.{Draw, Call, Mark}
+use Rattle.cif_reader.specs.Scope.{Opening, layer_behind, open_behind, scale_behind}
+use Rattle.cif_reader.specs.Label.{Label, label_in}
+use Rattle.cif_reader.specs.Measure.{scaled, scaled_point, scaled_rect, points_along, box_corners, steps_of}
+use Rattle.cif_reader.specs.Faults.{first_fault}
+use Rattle.cif_reader.specs.File.{Contents}
 
--- a box of length l and width w, which reaches half of them to each side of its centre
-abbrev pub rect_of : ℕ → ℕ → ℤ → ℤ → Rect
-rect_of l w x y = record { x0 = (pos 2 *ℤ x) -ℤ pos l; y0 = (pos 2 *ℤ y) -ℤ pos w; x1 = (pos 2 *ℤ x) +ℤ pos l; y1 = (pos 2 *ℤ y) +ℤ pos w }
+-- ---- what a command says
 
--- a point
-abbrev pub point_of : ℤ → ℤ → Point
-point_of x y = record { x = pos 2 *ℤ x; y = pos 2 *ℤ y }
+-- A figure on a layer, a call of a symbol at the place that steps make, or a name at a point and perhaps on a layer.
+pub data Saying : Type 0 where
+  drawn : List ℕ → Figure → Saying
+  called : ℕ → List Step → Saying
+  marked : List ℕ → Point → Option (List ℕ) → Saying
 
--- the layer of a label, if it names it
-abbrev pub layer_of : Bool → Option (List ℕ)
-layer_of true = Some metal
-layer_of false = None
+-- a figure on the current layer
+abbrev pub on_layer : Option (List ℕ) → Figure → List Saying
+on_layer None figure = []
+on_layer (Some name) figure = drawn name figure ∷ []
 
--- what a command draws or marks, if anything
-abbrev pub said : Command → List What
-said layer = []
-said (box l w x y) = Draw metal (Block (rect_of l w x y)) ∷ []
-said (label name x y on) = Mark name (point_of x y) (layer_of on) ∷ []
+abbrev pub labelled : Scale → Option Label → List Saying
+labelled s None = []
+labelled s (Some l) = marked l.name (scaled_point s l.at) l.layer ∷ []
 
--- the items of a command that begins behind so many bytes
-abbrev pub items_at : ℕ → List What → List Item
-items_at at [] = []
-items_at at (what ∷ others) = record { pos = at; what = what } ∷ items_at at others
+-- What a command says on the current layer and in a scale, if anything.
+abbrev pub said : Option (List ℕ) → Scale → Command → List Saying
+said current s (box l w c d) = on_layer current (block (scaled_rect s (box_corners l.value w.value c d)))
+said current s (polygon p) = on_layer current (outlined (map (scaled_point s) (points_along p)))
+said current s (wire w p) = on_layer current (drawn_along (scaled s (pos w.value)) (map (scaled_point s) (points_along p)))
+said current s (call n ts) = called n.value (steps_of (scaled s) ts) ∷ []
+said current s (user text) = labelled s (label_in text)
+said current s _ = []
 
--- the items of commands, the first of which begins behind so many bytes
-abbrev pub items_from : ℕ → List Command → List Item
-items_from at [] = []
-items_from at (c ∷ cs) = items_at at (said c) ++ items_from (at + length (command_text c)) cs
+-- what a command says, and its position
+pub record Remark : Type 0 where
+  pub at : ℕ
+  pub what : Saying
 
--- the items of a whole text
-abbrev pub file_of : List Command → List Item
-file_of commands = items_from 0 commands
+abbrev pub remarks : List Placed → Placed → List Remark
+remarks before c = map (λ what. record { at = c.at; what = what }) (said (layer_behind before) (scale_behind before) c.what)
 
--- The bytes are a text of the thin form, and these are its items.
-pub record Reads (bytes : List ℕ) (file : List Item) : Type 0 where
-  pub commands : List Command
-  pub spelled : Spells bytes commands
-  pub is : file ≡ file_of commands
+-- ---- symbols and the top
 
--- ---- what is so of each file of the thin form
+-- what was said since the last start or finish
+abbrev pub said_since : List Placed → List Remark
+said_since [] = []
+said_since (c ∷ before) = elim c.what [ | start n s ↦ [] | finish ↦ [] | _ ↦ said_since before ++ remarks before c ]
 
--- A box is on metal, isn't empty and lies near.
-pub record IsThinBox (on : List ℕ) (r : Rect) : Type 0 where
-  pub layer_is : on ≡ metal
-  pub within : IsRectWithin 40000 r
-  pub wide : r.x0 <ℤ r.x1
-  pub high : r.y0 <ℤ r.y1
+-- what was said outside of definitions
+abbrev pub said_outside : List Placed → List Remark
+said_outside [] = []
+said_outside (c ∷ before) = if is_inside before then said_outside before else said_outside before ++ remarks before c
 
--- A label has a good name, lies near, and is on metal or names no layer.
-pub record IsThinLabel (name : List ℕ) (at : Point) (on : Option (List ℕ)) : Type 0 where
-  pub named : IsTrue (is_name name)
-  pub within : IsPointWithin 40000 at
-  pub layer_is : (on ≡ None) ⊎ (on ≡ Some metal)
+-- a symbol's number, the position of its start, and what was said inside
+pub record Definition : Type 0 where
+  pub number : ℕ
+  pub at : ℕ
+  pub remarks : List Remark
 
--- It is such a box or such a label.
-abbrev pub IsThinWhat : What → Type 0
-IsThinWhat (Draw on (Block r)) = IsThinBox on r
-IsThinWhat (Draw on _) = ⊥
-IsThinWhat (Mark name at on) = IsThinLabel name at on
+abbrev pub definition_of : Option Opening → List Remark → List Definition
+definition_of None inside = []
+definition_of (Some o) inside = record { number = o.symbol; at = o.at; remarks = inside } ∷ []
 
-abbrev pub IsThinItem : Item → Type 0
-IsThinItem item = IsThinWhat item.what
+-- the definitions in order: each finish ends one
+abbrev pub definitions : List Placed → List Definition
+definitions [] = []
+definitions (c ∷ before) = elim c.what [ | finish ↦ definitions before ++ definition_of (open_behind before) (said_since before) | _ ↦ definitions before ]
+
+-- ---- the file
+
+-- The item is what was said, in mask units.
+abbrev pub IsSaid : What → Saying → Type 0
+IsSaid (Draw on shape) (drawn named figure) = (on ≡ named) × (figure_of shape ≡ figure)
+IsSaid (Call symbol place) (called number steps) = (symbol ≡ number) × IsPlaceOf steps place
+IsSaid (Mark name at on) (marked text point named) = (name ≡ text) × (at ≡ point) × (on ≡ named)
+IsSaid _ _ = ⊥
+
+abbrev pub AreSaid : List Item → List Remark → Type 0
+AreSaid [] [] = Unit {0}
+AreSaid (item ∷ items) (remark ∷ remarks) = (item.pos ≡ remark.at) × IsSaid item.what remark.what × AreSaid items remarks
+AreSaid _ _ = ⊥
+
+abbrev pub AreDefined : List Symbol → List Definition → Type 0
+AreDefined [] [] = Unit {0}
+AreDefined (symbol ∷ symbols) (made ∷ others) = (symbol.number ≡ made.number) × (symbol.pos ≡ made.at) × AreSaid symbol.items.items made.remarks × AreDefined symbols others
+AreDefined _ _ = ⊥
+
+-- The text spells commands without fault, and the file holds what they say.
+pub record Accepts (text : List ℕ) (file : Contents) : Type 0 where
+  pub commands : List Placed
+  pub spelled : Spells text commands
+  pub none_at_fault : first_fault commands ≡ None
+  pub symbols : AreDefined file.symbols (definitions commands)
+  pub top : AreSaid file.top (said_outside commands)

@@ -1,24 +1,41 @@
-use Rattle.std.proofs.Common.{sym, arith}
-use Rattle.cif_reader.proofs.Texts.{goes_on, at_end, stuck, barred, all_kept, file_thin, not_end, is_end, shrinks}
+use Rattle.std.proofs.Common.{◌∙◌, sym, ap, refl, inr}
+use Rattle.cif_grammar.specs.Seen.{seen}
+use Rattle.cif_reader.proofs.Reaching.{rest_within, fault_here, fine_here, gets_shorter, goes_on, stands_may, fault_behind, accepted_here}
 use Rattle.cif_reader.proofs.reading.read.Goals as goal
 
-pub returns-in_default-clause-refused : goal.returns-in_default-clause-refused
-returns-in_default-clause-refused c = λ _ thin. stuck _ _ _ _ c.loop-rest.invariant (not_end _ c.loop-rest-test.ensures) (sym c.in_default.ensures) thin
+pub overflow_sub-pos : goal.overflow_sub-pos
+overflow_sub-pos c = rest_within c.args.bytes.now c.loop-builder.rest.now c.loop-builder.builder c.loop-builder.invariant
 
-pub returns-then-not-may_stand-clause-refused : goal.returns-then-not-may_stand-clause-refused
-returns-then-not-may_stand-clause-refused c = λ _ thin. barred _ _ _ _ _ _ c.loop-rest.invariant (sym c.in-Some.ensures) (sym c.if-not-may_stand.ensures) thin
+pub returns-in-Some-judge-clause-refused : goal.returns-in-Some-judge-clause-refused
+returns-in-Some-judge-clause-refused c =
+    inr (fault_here c.args.bytes.now c.loop-builder.rest.now c.loop-builder.builder (seen c.in-Some.command) c.in-Some.next.now c.in-Some-judge.fault c.loop-builder.invariant
+      (sym (rw c.in-Some.is at c.in_ok-command.ensures)) (sym (c.judge.ensures c.loop-builder.invariant.commands c.loop-builder.invariant.built) ∙ c.in-Some-judge.is))
 
-pub loop-rest-smaller : goal.loop-rest-smaller
-loop-rest-smaller c = shrinks _ _ _ (sym c.in-Some.ensures)
+pub add-requires-clause-fine : goal.add-requires-clause-fine
+add-requires-clause-fine c =
+    fine_here c.args.bytes.now c.loop-builder.rest.now c.loop-builder.builder (seen c.in-Some.command) c.loop-builder.invariant
+      (sym (c.judge.ensures c.loop-builder.invariant.commands c.loop-builder.invariant.built) ∙ c.in_default-judge.is)
 
-pub loop-rest-preserved : goal.loop-rest-preserved
-loop-rest-preserved c = goes_on _ _ _ _ _ _ _ _ c.loop-rest.invariant (sym c.in-Some.ensures) (sym c.if-not-may_stand.ensures) c.is_layer-has_layer.ensures c.in_ok-add.ensures
+pub loop-builder-smaller : goal.loop-builder-smaller
+loop-builder-smaller c =
+    gets_shorter c.args.bytes.now c.loop-builder.rest.now c.loop-builder.builder (seen c.in-Some.command) c.in-Some.next.now c.loop-builder.invariant (sym (rw c.in-Some.is at c.in_ok-command.ensures))
 
-pub returns-clause-found : goal.returns-clause-found
-returns-clause-found c = at_end _ _ _ _ c.loop-rest.invariant (is_end _ c.loop-rest-test.ensures) (omega arith)
+pub loop-builder-preserved : goal.loop-builder-preserved
+loop-builder-preserved c =
+    let r = c.loop-builder.invariant in
+    let stands = sym (rw c.in-Some.is at c.in_ok-command.ensures) in
+    let fine = sym (c.judge.ensures r.commands r.built) ∙ c.in_default-judge.is in
+    goes_on c.args.bytes.now c.loop-builder.rest.now c.loop-builder.builder _ (seen c.in-Some.command) c.in-Some.next.now r stands fine
+      (c.in_ok-add.ensures r.commands r.built (stands_may c.args.bytes.now c.loop-builder.rest.now c.loop-builder.builder (seen c.in-Some.command) c.in-Some.next.now r stands) fine)
 
-pub returns-clause-thin : goal.returns-clause-thin
-returns-clause-thin c = file_thin _ _ (at_end _ _ _ _ c.loop-rest.invariant (is_end _ c.loop-rest-test.ensures) (omega arith))
+pub overflow_sub-pos-2 : goal.overflow_sub-pos-2
+overflow_sub-pos-2 c = rest_within c.args.bytes.now c.loop-builder.rest.now c.loop-builder.builder c.loop-builder.invariant
 
-pub invariant_of-result : goal.invariant_of-result
-invariant_of-result c = all_kept _ (file_thin _ _ (at_end _ _ _ _ c.loop-rest.invariant (is_end _ c.loop-rest-test.ensures) (omega arith)))
+pub returns-in-Some-end_fault-clause-refused : goal.returns-in-Some-end_fault-clause-refused
+returns-in-Some-end_fault-clause-refused c =
+    inr (fault_behind c.args.bytes.now c.loop-builder.rest.now c.loop-builder.builder c.in-Some-end_fault.fault c.loop-builder.invariant
+      (sym (rw c.in_default.is at c.in_ok-command.ensures)) (sym (rw c.is_inside.ensures at c.end_fault.ensures) ∙ c.in-Some-end_fault.is))
+
+pub returns-in-None-clause-accepted : goal.returns-in-None-clause-accepted
+returns-in-None-clause-accepted c =
+    accepted_here c.args.bytes.now c.loop-builder.rest.now c.loop-builder.builder c.loop-builder.invariant (sym (rw c.is_inside.ensures at c.end_fault.ensures) ∙ c.in-None.is)

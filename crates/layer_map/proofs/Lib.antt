@@ -1,0 +1,4 @@
+pub mod LineLemmas
+pub mod Parsing
+pub mod Steps
+pub mod WordLemmas

@@ -1,4 +1,6 @@
+pub mod AddingLemmas
 pub mod LineLemmas
 pub mod Parsing
 pub mod Steps
+pub mod TreeLemmas
 pub mod WordLemmas

@@ -6,7 +6,7 @@ use Rattle.plane_geom.specs.Names.{is_short}
 use Rattle.layer_map.specs.declared.expressions.Scan.{Scan}
 use Rattle.layer_map.specs.Building.{EndsProduct, EndsSum}
 use Rattle.layer_map.specs.Grammar.{Factor, of_layer, inverse, group, Product, product, Factors, no_factor, times, Sum, sum_of, Products, no_product, plus, factor_words, product_words, factors_words, sum_words, products_words, names_factor, names_product, names_factors, names_sum, names_products, layers_factor, layers_product, layers_factors, layers_in, layers_products}
-use Rattle.layer_map.specs.Readers.{◌>>=◌, behind, Level, Tail, no_level, level_sum, inverted, grouped, grouped_in, one_more_factor, one_more_product, closed, want, have, parse, tree_of, tree_in, is_done, factor_step, other_step, step, scan}
+use Rattle.layer_map.specs.Readers.{◌>>=◌, first_of, behind, Level, Tail, no_level, level_sum, inverted, grouped, grouped_in, one_more_factor, one_more_product, closed, want, have, parse, tree_of, tree_in, is_done, factor_step, other_step, step, scan}
 use Rattle.layer_map.proofs.Steps.{bind_some, map_some, guarded, map_map, bytes_are, are_bytes, is_false, apart}
 
 -- ---- the words of a tail
@@ -167,7 +167,7 @@ mutual
 
 -- ---- what is spelled so is read
 
-sign_apart : (w : List ℕ) (b : ℕ) → is_short w ≡ true → is_short (b ∷ []) ≡ false → bytes_eq w (b ∷ []) ≡ false
+pub sign_apart : (w : List ℕ) (b : ℕ) → is_short w ≡ true → is_short (b ∷ []) ≡ false → bytes_eq w (b ∷ []) ≡ false
 sign_apart w b h k = apart is_short w (b ∷ []) h k
 
 -- how a level with these factors, or with these products alone, is filled up
@@ -372,3 +372,87 @@ pub record IsScanned (ws rest : List (List ℕ)) (s : Scan) (all left : ℕ) : T
   pub same : scan ws (at true 0 0) ≡ scan rest s
   pub parens : s.parens + left ≤ all
   pub layers : s.layers + left ≤ all
+
+-- The words begin with an expression, so many names of layers stand in it, and this is what follows.
+pub record IsRead (ws : List (List ℕ)) (n : ℕ) (rest : List (List ℕ)) : Type 0 where
+  pub parsed : parse ws ≡ Some (tree_of ws, rest)
+  pub layers : n ≡ layers_in (tree_of ws)
+
+read_at : (ws rest : List (List ℕ)) (n : ℕ) (x : Factor × Tail) (outer : List Level) → x.1.outer ≡ outer → length outer ≡ 0 → want ws 0 ≡ Some x → counted 0 x ≡ (n, rest) → IsRead ws n rest
+read_at ws rest n x (l ∷ ls) o e h k = absurd (omega arith)
+read_at ws rest n x [] o e h k =
+    let count : 0 + (layers_factor x.0 + (layers_level x.1.level + layers_outer x.1.outer)) ≡ n = ap (λ (y : ℕ × List (List ℕ)). y.0) k in
+    let follows : x.1.rest ≡ rest = ap (λ (y : ℕ × List (List ℕ)). y.1) k in
+    let none : layers_outer x.1.outer ≡ 0 = ap layers_outer o in
+    let is : parse ws ≡ Some (level_sum x.0 x.1.level, x.1.rest) = ap (option_map (λ y. (level_sum y.0 y.1.level, y.1.rest))) h in
+    let tree : tree_of ws ≡ level_sum x.0 x.1.level = ap tree_in is in
+    record {
+      parsed = is ∙ λ i. Some (sym tree i, follows i);
+      layers = (let total : n ≡ layers_in (level_sum x.0 x.1.level) = omega (arith, count, none) in total) ∙ ap layers_in (sym tree);
+    }
+
+pub scan_read : (ws rest : List (List ℕ)) (n : ℕ) → scan ws (at true 0 0) ≡ Some (n, rest) → IsRead ws n rest
+scan_read ws rest n h =
+    let got = map_some (want ws 0) (counted 0) (n, rest) (sym (scan_want ws 0 0) ∙ h) in
+    read_at ws rest n got.0 got.0.1.outer refl (want_takes ws 0 got.0 got.1).tail.deep got.1 got.2
+
+none_mapped : (o : Option (Factor × Tail)) → option_map (counted 0) o ≡ None → option_map {U = Sum × List (List ℕ)} (λ (x : Factor × Tail). (level_sum x.0 x.1.level, x.1.rest)) o ≡ None
+none_mapped None h = refl
+none_mapped (Some x) h = cc
+
+pub scan_stuck : (ws : List (List ℕ)) → scan ws (at true 0 0) ≡ None → parse ws ≡ None
+scan_stuck ws h = none_mapped (want ws 0) (sym (scan_want ws 0 0) ∙ h)
+
+-- ---- where the loop of the scan stands
+
+first_is : (rest next : List (List ℕ)) (w : List ℕ) → ◌≡◌ {A = Option (List ℕ × List (List ℕ))} (Some (w, next)) (first_of rest) → rest ≡ w ∷ next
+first_is [] next w h = cc
+first_is (x ∷ xs) next w h = let same : ◌≡◌ {A = List ℕ × List (List ℕ)} (w, next) (x, xs) = cc in λ i. ap (λ (y : List ℕ × List (List ℕ)). y.0) (sym same) i ∷ ap (λ (y : List ℕ × List (List ℕ)). y.1) (sym same) i
+
+none_first : (rest : List (List ℕ)) → ◌≡◌ {A = Option (List ℕ × List (List ℕ))} None (first_of rest) → rest ≡ []
+none_first [] h = refl
+none_first (x ∷ xs) h = cc
+
+pub found_here : (ws rest next : List (List ℕ)) (w : List ℕ) (s : Scan) (all left : ℕ) → IsScanned ws rest s all left → ◌≡◌ {A = Option (List ℕ × List (List ℕ))} (Some (w, next)) (first_of rest) → is_done s w ≡ true → IsRead ws s.layers rest
+found_here ws rest next w s all left h e d =
+    let r = first_is rest next w e in
+    scan_read ws rest s.layers (h.same ∙ ap (λ x. scan x s) r ∙ ap (λ t. if t then Some (s.layers, w ∷ next) else (step s w >>= scan next)) d ∙ λ i. Some (s.layers, sym r i))
+
+pub stuck_here : (ws rest next : List (List ℕ)) (w : List ℕ) (s : Scan) (all left : ℕ) → IsScanned ws rest s all left → ◌≡◌ {A = Option (List ℕ × List (List ℕ))} (Some (w, next)) (first_of rest) → is_done s w ≡ false → step s w ≡ None → parse ws ≡ None
+stuck_here ws rest next w s all left h e d n =
+    let r = first_is rest next w e in
+    scan_stuck ws (h.same ∙ ap (λ x. scan x s) r ∙ ap (λ t. if t then Some (s.layers, w ∷ next) else (step s w >>= scan next)) d ∙ ap (λ o. o >>= scan next) n)
+
+pub whole_here : (ws rest : List (List ℕ)) (s : Scan) (all left : ℕ) → IsScanned ws rest s all left → ◌≡◌ {A = Option (List ℕ × List (List ℕ))} None (first_of rest) → (not s.wants_factor && s.parens == 0) ≡ true → IsRead ws s.layers rest
+whole_here ws rest s all left h e d =
+    let r = none_first rest e in
+    scan_read ws rest s.layers (h.same ∙ ap (λ x. scan x s) r ∙ ap (λ t. if t then Some (s.layers, []) else None) d ∙ λ i. Some (s.layers, sym r i))
+
+pub cut_off_here : (ws rest : List (List ℕ)) (s : Scan) (all left : ℕ) → IsScanned ws rest s all left → ◌≡◌ {A = Option (List ℕ × List (List ℕ))} None (first_of rest) → (not s.wants_factor && s.parens == 0) ≡ false → parse ws ≡ None
+cut_off_here ws rest s all left h e d =
+    let r = none_first rest e in
+    scan_stuck ws (h.same ∙ ap (λ x. scan x s) r ∙ ap (λ t. if t then Some (s.layers, []) else None) d)
+
+step_counts : (s t : Scan) (a b e p q z : Bool) → s.wants_factor ≡ p → (if p then (if a then Some s else if b then Some (record s { parens = s.parens + 1 }) else if e then Some (at false s.parens (s.layers + 1)) else None) else (if q then Some (record s { wants_factor = true }) else if z then None else if b then Some (record s { parens = s.parens - 1 }) else None)) ≡ Some t → (t.parens ≤ s.parens + 1) × (t.layers ≤ s.layers + 1)
+step_counts s t true b e true q z w h = let same : s ≡ t = cc in (omega (arith, ap (λ (x : Scan). x.parens) same), omega (arith, ap (λ (x : Scan). x.layers) same))
+step_counts s t false true e true q z w h = let same : record s { parens = s.parens + 1 } ≡ t = cc in (omega (arith, ap (λ (x : Scan). x.parens) same), omega (arith, ap (λ (x : Scan). x.layers) same))
+step_counts s t false false true true q z w h = let same : at false s.parens (s.layers + 1) ≡ t = cc in (omega (arith, ap (λ (x : Scan). x.parens) same), omega (arith, ap (λ (x : Scan). x.layers) same))
+step_counts s t false false false true q z w h = cc
+step_counts s t a b e false true z w h = let same : record s { wants_factor = true } ≡ t = cc in (omega (arith, ap (λ (x : Scan). x.parens) same), omega (arith, ap (λ (x : Scan). x.layers) same))
+step_counts s t a b e false false true w h = cc
+step_counts s t a true e false false false w h = let same : record s { parens = s.parens - 1 } ≡ t = cc in (omega (arith, ap (λ (x : Scan). x.parens) same), omega (arith, ap (λ (x : Scan). x.layers) same))
+step_counts s t a false e false false false w h = cc
+
+step_counts_at : (s t : Scan) (w : List ℕ) (p : Bool) → s.wants_factor ≡ p → (if p then factor_step s w else other_step s w) ≡ Some t → (t.parens ≤ s.parens + 1) × (t.layers ≤ s.layers + 1)
+step_counts_at s t w true e h = step_counts s t (bytes_eq w (codes "!")) (bytes_eq w (codes "(")) (is_short w) true true true e h
+step_counts_at s t w false e h = step_counts s t true (bytes_eq w (codes ")")) true false (bytes_eq w (codes "*") || bytes_eq w (codes "+")) (s.parens == 0) e h
+
+pub goes_on_here : (ws rest next : List (List ℕ)) (w : List ℕ) (s t : Scan) (all left less : ℕ) → IsScanned ws rest s all left → ◌≡◌ {A = Option (List ℕ × List (List ℕ))} (Some (w, next)) (first_of rest) → is_done s w ≡ false → step s w ≡ Some t → less < left → IsScanned ws next t all less
+goes_on_here ws rest next w s t all left less h e d n lt =
+    let r = first_is rest next w e in
+    let counts = step_counts_at s t w s.wants_factor refl n in
+    record {
+      same = h.same ∙ ap (λ x. scan x s) r ∙ ap (λ u. if u then Some (s.layers, w ∷ next) else (step s w >>= scan next)) d ∙ ap (λ o. o >>= scan next) n;
+      parens = omega (arith, h.parens, counts.0, lt);
+      layers = omega (arith, h.layers, counts.1, lt);
+    }

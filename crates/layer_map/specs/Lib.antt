@@ -7,6 +7,7 @@ pub mod Lines
 pub mod Names
 pub mod Plan
 pub mod Readers
+pub mod Steps
 pub mod Truth
 pub mod RowViews
 pub mod Views

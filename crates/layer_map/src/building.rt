@@ -3,7 +3,7 @@
 //! The readers call each other only as deep as `(` and `!` are open, which the limit bounds, and once for each factor or
 //! product of a chain, which the limit on names of layers bounds.
 
-ghost use Rattle.std.specs.Prelude.{◌≡◌, ℕ, true, false, List, [], ◌∷◌, ◌++◌, Some, None, option_map, IfOk, IfSome, is_some, nat_le, if◌then◌else◌};
+ghost use Rattle.std.specs.Prelude.{◌≡◌, ℕ, true, false, List, [], ◌∷◌, ◌++◌, Some, None, option_map, IfOk, IfSome, nat_le, length, ◌≤◌, if◌then◌else◌};
 ghost use Rattle.layer_map.specs.Words.{words_of};
 ghost use Rattle.layer_map.specs.Grammar.{Factor, factor_words, names_factor, depth_factor, Product, product_words, names_product, depth_product, Factors, factors_words, names_factors, depth_factors, Sum, sum_words, names_sum, depth_of, layers_in, Products, products_words, names_products, depth_products};
 ghost use Rattle.layer_map.specs.Truth.{factor_means, product_means, factors_mean, means, products_mean, formula_of};
@@ -30,12 +30,10 @@ type Built<'a> = Option<(Expr, &'a [u8])>;
 /// A factor, with so much room for `(` and `!`.
 #[cycle(expressions)]
 fn factor(alloc: Global, room: u32, bytes: &[u8]) -> Result<Built<'_>, AllocError>
-    ensures { (f : Factor) (tail : List (List ℕ)) → words_of true bytes.now ≡ factor_words f ++ tail → names_factor f ≡ true → IfOk result (λ o. option_map (λ x. (formula_of x.0, words_of true x.1.now)) o ≡ built (depth_factor f) room (factor_means f) tail) }
+    ensures within { IfOk result (λ o. IfSome o (λ x. length x.1.now ≤ length bytes.now)) }
+    ensures tree { (f : Factor) (tail : List (List ℕ)) → words_of true bytes.now ≡ factor_words f ++ tail → names_factor f ≡ true → IfOk result (λ o. option_map (λ x. (formula_of x.0, words_of true x.1.now)) o ≡ built (depth_factor f) room (factor_means f) tail) }
 {
-    let Some((word, rest)) = next_word(bytes) else {
-        return Ok(None);
-    };
-    if word == b"!".as_slice() {
+    if let Some(rest) = behind(b"!", bytes) {
         if room == 0 {
             return Ok(None);
         }
@@ -44,12 +42,15 @@ fn factor(alloc: Global, room: u32, bytes: &[u8]) -> Result<Built<'_>, AllocErro
         };
         return Ok(Some((Expr::Not(Box::new(alloc, expr)?), rest)));
     }
-    if word == b"(".as_slice() {
+    if let Some(rest) = behind(b"(", bytes) {
         if room == 0 {
             return Ok(None);
         }
         return group(alloc, room - 1, rest);
     }
+    let Some((word, rest)) = next_word(bytes) else {
+        return Ok(None);
+    };
     match Short::new(word) {
         None => Ok(None),
         Some(layer) => Ok(Some((Expr::Layer(layer), rest))),
@@ -59,7 +60,8 @@ fn factor(alloc: Global, room: u32, bytes: &[u8]) -> Result<Built<'_>, AllocErro
 /// An expression and the `)` behind it.
 #[cycle(expressions)]
 fn group(alloc: Global, room: u32, bytes: &[u8]) -> Result<Built<'_>, AllocError>
-    ensures { (s : Sum) (tail : List (List ℕ)) → words_of true bytes.now ≡ sum_words s ++ ((41 ∷ []) ∷ tail) → names_sum s ≡ true → IfOk result (λ o. option_map (λ x. (formula_of x.0, words_of true x.1.now)) o ≡ built (depth_of s) room (means s) tail) }
+    ensures within { IfOk result (λ o. IfSome o (λ x. length x.1.now ≤ length bytes.now)) }
+    ensures tree { (s : Sum) (tail : List (List ℕ)) → words_of true bytes.now ≡ sum_words s ++ ((41 ∷ []) ∷ tail) → names_sum s ≡ true → IfOk result (λ o. option_map (λ x. (formula_of x.0, words_of true x.1.now)) o ≡ built (depth_of s) room (means s) tail) }
 {
     let Some((expr, rest)) = sum(alloc, room, bytes)? else {
         return Ok(None);
@@ -73,7 +75,8 @@ fn group(alloc: Global, room: u32, bytes: &[u8]) -> Result<Built<'_>, AllocError
 /// A product, with so much room for `(` and `!`.
 #[cycle(expressions)]
 fn product(alloc: Global, room: u32, bytes: &[u8]) -> Result<Built<'_>, AllocError>
-    ensures { (p : Product) (tail : List (List ℕ)) → words_of true bytes.now ≡ product_words p ++ tail → EndsProduct tail → names_product p ≡ true → IfOk result (λ o. option_map (λ x. (formula_of x.0, words_of true x.1.now)) o ≡ built (depth_product p) room (product_means p) tail) }
+    ensures within { IfOk result (λ o. IfSome o (λ x. length x.1.now ≤ length bytes.now)) }
+    ensures tree { (p : Product) (tail : List (List ℕ)) → words_of true bytes.now ≡ product_words p ++ tail → EndsProduct tail → names_product p ≡ true → IfOk result (λ o. option_map (λ x. (formula_of x.0, words_of true x.1.now)) o ≡ built (depth_product p) room (product_means p) tail) }
 {
     match factor(alloc, room, bytes)? {
         None => Ok(None),
@@ -89,7 +92,8 @@ fn more_factors(
     left: Expr,
     bytes: &[u8],
 ) -> Result<Built<'_>, AllocError>
-    ensures { (fs : Factors) (tail : List (List ℕ)) → words_of true bytes.now ≡ factors_words fs ++ tail → EndsProduct tail → names_factors fs ≡ true → IfOk result (λ o. option_map (λ x. (formula_of x.0, words_of true x.1.now)) o ≡ built (depth_factors fs) room (factors_mean fs (formula_of left)) tail) }
+    ensures within { IfOk result (λ o. IfSome o (λ x. length x.1.now ≤ length bytes.now)) }
+    ensures tree { (fs : Factors) (tail : List (List ℕ)) → words_of true bytes.now ≡ factors_words fs ++ tail → EndsProduct tail → names_factors fs ≡ true → IfOk result (λ o. option_map (λ x. (formula_of x.0, words_of true x.1.now)) o ≡ built (depth_factors fs) room (factors_mean fs (formula_of left)) tail) }
 {
     let Some(rest) = behind(b"*", bytes) else {
         return Ok(Some((left, bytes)));
@@ -104,7 +108,8 @@ fn more_factors(
 /// A sum, with so much room for `(` and `!`.
 #[cycle(expressions)]
 fn sum(alloc: Global, room: u32, bytes: &[u8]) -> Result<Built<'_>, AllocError>
-    ensures { (s : Sum) (tail : List (List ℕ)) → words_of true bytes.now ≡ sum_words s ++ tail → EndsSum tail → names_sum s ≡ true → IfOk result (λ o. option_map (λ x. (formula_of x.0, words_of true x.1.now)) o ≡ built (depth_of s) room (means s) tail) }
+    ensures within { IfOk result (λ o. IfSome o (λ x. length x.1.now ≤ length bytes.now)) }
+    ensures tree { (s : Sum) (tail : List (List ℕ)) → words_of true bytes.now ≡ sum_words s ++ tail → EndsSum tail → names_sum s ≡ true → IfOk result (λ o. option_map (λ x. (formula_of x.0, words_of true x.1.now)) o ≡ built (depth_of s) room (means s) tail) }
 {
     match product(alloc, room, bytes)? {
         None => Ok(None),
@@ -120,7 +125,8 @@ fn more_products(
     left: Expr,
     bytes: &[u8],
 ) -> Result<Built<'_>, AllocError>
-    ensures { (ps : Products) (tail : List (List ℕ)) → words_of true bytes.now ≡ products_words ps ++ tail → EndsSum tail → names_products ps ≡ true → IfOk result (λ o. option_map (λ x. (formula_of x.0, words_of true x.1.now)) o ≡ built (depth_products ps) room (products_mean ps (formula_of left)) tail) }
+    ensures within { IfOk result (λ o. IfSome o (λ x. length x.1.now ≤ length bytes.now)) }
+    ensures tree { (ps : Products) (tail : List (List ℕ)) → words_of true bytes.now ≡ products_words ps ++ tail → EndsSum tail → names_products ps ≡ true → IfOk result (λ o. option_map (λ x. (formula_of x.0, words_of true x.1.now)) o ≡ built (depth_products ps) room (products_mean ps (formula_of left)) tail) }
 {
     let Some(rest) = behind(b"+", bytes) else {
         return Ok(Some((left, bytes)));

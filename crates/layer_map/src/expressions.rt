@@ -4,7 +4,7 @@
 //! line that is not of the grammar is known as such however deep it is nested, and a tree is only made of an expression
 //! that is within the limits.
 
-ghost use Rattle.std.specs.Prelude.{◌≡◌, ◌+◌, ◌<◌, ◌^◌, true, Some, None, MatchOption, IfSome, IsTrue};
+ghost use Rattle.std.specs.Prelude.{◌≡◌, ◌+◌, ◌<◌, ◌^◌, true, Some, None, MatchOption, IfSome, not, ◌&&◌, ◌==◌};
 ghost use Rattle.layer_map.specs.Words.{words_of};
 ghost use Rattle.layer_map.specs.Grammar.{layers_in};
 ghost use Rattle.layer_map.specs.Readers.{is_done as is_done_lem, factor_step as factor_step_lem, other_step as other_step_lem, step as step_lem, parse, tree_of};
@@ -21,6 +21,13 @@ pub(crate) struct Scan {
     parens: usize,
     /// How many names of layers stood so far.
     layers: usize,
+}
+
+/// Whether the expression may end here.
+fn is_whole(scan: Scan) -> bool
+    ensures { result ≡ (not scan.wants_factor && scan.parens == 0) }
+{
+    !scan.wants_factor && scan.parens == 0
 }
 
 /// Whether the word is no part of the expression that goes up to it.
@@ -101,10 +108,13 @@ pub(crate) fn expression_of(bytes: &[u8]) -> Option<(usize, &[u8])>
         if is_done(scan, word) {
             return Some((scan.layers, rest));
         }
-        scan = step(scan, word)?;
+        let Some(next) = step(scan, word) else {
+            return None;
+        };
+        scan = next;
         rest = behind;
     }
-    if !scan.wants_factor && scan.parens == 0 {
+    if is_whole(scan) {
         Some((scan.layers, rest))
     } else {
         None

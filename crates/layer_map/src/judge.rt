@@ -114,13 +114,18 @@ fn is_supply(names: &[Label], name: &[u8]) -> bool
     names.iter().any(|label| label.as_bytes() == name)
 }
 
+/// Whether the name is among those of either supply.
+fn is_in_either(high: &[Label], low: &[Label], name: &Label) -> bool
+    ensures { result ≡ (is_among name.now high.now || is_among name.now low.now) }
+{
+    is_supply(high, name.as_bytes()) || is_supply(low, name.as_bytes())
+}
+
 /// Whether one of the names is among those of either supply.
 pub(crate) fn is_any_supply(high: &[Label], low: &[Label], names: &[Label]) -> bool
     ensures { result ≡ list_any (λ n. is_among n high.now || is_among n low.now) names.now }
 {
-    names
-        .iter()
-        .any(|name| is_supply(high, name.as_bytes()) || is_supply(low, name.as_bytes()))
+    names.iter().any(|name| is_in_either(high, low, name))
 }
 
 /// Whether no name stands twice.

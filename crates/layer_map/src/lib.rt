@@ -8,6 +8,7 @@
 //! The making of masks, the tracing of nets and the extraction of transistors stand on it.
 #![tactic(auto)]
 
+mod adding;
 mod building;
 mod expr;
 mod expressions;

@@ -405,7 +405,7 @@ scan_stuck ws h = none_mapped (want ws 0) (sym (scan_want ws 0 0) ∙ h)
 
 -- ---- where the loop of the scan stands
 
-first_is : (rest next : List (List ℕ)) (w : List ℕ) → ◌≡◌ {A = Option (List ℕ × List (List ℕ))} (Some (w, next)) (first_of rest) → rest ≡ w ∷ next
+pub first_is : (rest next : List (List ℕ)) (w : List ℕ) → ◌≡◌ {A = Option (List ℕ × List (List ℕ))} (Some (w, next)) (first_of rest) → rest ≡ w ∷ next
 first_is [] next w h = cc
 first_is (x ∷ xs) next w h = let same : ◌≡◌ {A = List ℕ × List (List ℕ)} (w, next) (x, xs) = cc in λ i. ap (λ (y : List ℕ × List (List ℕ)). y.0) (sym same) i ∷ ap (λ (y : List ℕ × List (List ℕ)). y.1) (sym same) i
 

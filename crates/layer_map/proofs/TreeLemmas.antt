@@ -1,13 +1,15 @@
 -- What the readers that make trees give, form by form.
-use Rattle.std.proofs.Common.{◌≡◌, ℕ, zero, suc, ◌+◌, ◌-◌, ◌<◌, ◌≤◌, Bool, true, false, cond, if◌then◌else◌, not, ◌&&◌, ◌||◌, List, [], ◌∷◌, ◌++◌, length, codes, max, Option, Some, None, option_map, Result, Ok, Err, IfOk, refl, sym, ap, ◌∙◌, subst, arith, ◌==◌, append_assoc, nat_le}
+use Rattle.std.proofs.Common.{◌≡◌, ℕ, zero, suc, ◌+◌, ◌-◌, ◌<◌, ◌≤◌, Bool, true, false, cond, if◌then◌else◌, not, ◌&&◌, ◌||◌, List, [], ◌∷◌, ◌++◌, length, codes, max, Option, Some, None, option_map, Result, Ok, Err, IfOk, refl, sym, ap, ◌∙◌, subst, arith, ◌==◌, append_assoc, nat_le, nat_lt}
+use Rattle.std.specs.Option.{is_some}
 use Rattle.std.specs.Str.{bytes_eq}
-use Rattle.std.proofs.lemmas.Bool.{and_parts, leb-true, leb-false, le-leb, lt-leb}
+use Rattle.std.proofs.lemmas.Bool.{and_parts, leb-true, leb-false, le-leb, lt-leb, lt-ltb, le-ltb}
 use Rattle.plane_geom.specs.Names.{is_short}
 use Rattle.layer_map.specs.Building.{built, EndsProduct, EndsSum}
-use Rattle.layer_map.specs.Grammar.{Factor, of_layer, inverse, group, Product, product, Factors, no_factor, times, Sum, sum_of, Products, no_product, plus, factor_words, product_words, factors_words, sum_words, products_words, names_factor, names_product, names_factors, names_sum, names_products, depth_factor, depth_product, depth_factors, depth_of, depth_products}
+use Rattle.layer_map.specs.Grammar.{Factor, of_layer, inverse, group, Product, product, Factors, no_factor, times, Sum, sum_of, Products, no_product, plus, factor_words, product_words, factors_words, sum_words, products_words, names_factor, names_product, names_factors, names_sum, names_products, layers_in, depth_factor, depth_product, depth_factors, depth_of, depth_products}
 use Rattle.layer_map.specs.Truth.{Formula, on, neither, both, either, factor_means, product_means, factors_mean, means, products_mean}
-use Rattle.layer_map.specs.Readers.{behind, first_of}
-use Rattle.layer_map.proofs.Parsing.{sign_apart}
+use Rattle.layer_map.specs.Faults.{is_large}
+use Rattle.layer_map.specs.Readers.{behind, first_of, parse, tree_of, tree_in}
+use Rattle.layer_map.proofs.Parsing.{sign_apart, IsParsed, parse_takes}
 
 -- ---- room
 
@@ -236,3 +238,31 @@ sum_some r see (sum_of p ps) tail ws rest x room ih rec h ends named =
     let all = and_parts (names_product p) (names_products ps) named in
     let got = some_case (nat_le (depth_product p) room) (product_means p) x rest (products_words ps ++ tail) (ih p (products_words ps ++ tail) (h ∙ append_assoc (product_words p) (products_words ps) tail) (ends_product ps tail ends) all.0) in
     subst (λ v. IfOk r (λ o. see o ≡ v)) ((λ i. built (depth_products ps) room (products_mean ps (got.1 i)) tail) ∙ right_decides (depth_product p) (depth_products ps) room (products_mean ps (product_means p)) tail (leb-true _ _ got.0)) (rec ps tail got.2 ends all.1)
+
+-- ---- whole expressions
+
+pub tree_is : (ws : List (List ℕ)) (o : Option (Sum × List (List ℕ))) → parse ws ≡ o → is_some o ≡ true → (rest : List (List ℕ)) × IsParsed ws (tree_in o) rest
+tree_is ws None e h = absurd (cc)
+tree_is ws (Some x) e h = (x.1, parse_takes ws x.0 x.1 e)
+
+deep : (s : Sum) (room : ℕ) (u : Bool) → nat_le (depth_of s) 32 ≡ u → nat_lt 32 (depth_of s) ≡ not u
+deep s room true e = le-ltb 32 (depth_of s) (leb-true (depth_of s) 32 e)
+deep s room false e = lt-ltb 32 (depth_of s) (leb-false (depth_of s) 32 e)
+
+large_is : (s : Sum) (u : Bool) → nat_le (layers_in s) 64 ≡ true → nat_le (depth_of s) 32 ≡ u → is_large s ≡ not u
+large_is s u few e = (λ i. le-ltb 64 (layers_in s) (leb-true (layers_in s) 64 few) i || deep s 32 u e i)
+
+pub build_none : (ws : List (List ℕ)) → is_some (parse ws) ≡ true → nat_le (layers_in (tree_of ws)) 64 ≡ true → ((s : Sum) (t : List (List ℕ)) → ws ≡ sum_words s ++ t → EndsSum t → names_sum s ≡ true → ◌≡◌ {A = Option (Formula × List (List ℕ))} None (built (depth_of s) 32 (means s) t)) → is_large (tree_of ws) ≡ true
+build_none ws h few ih =
+    let p = tree_is ws (parse ws) refl h in
+    let none = none_case (nat_le (depth_of (tree_of ws)) 32) (means (tree_of ws)) p.0 (ih (tree_of ws) p.0 p.1.whole p.1.ends p.1.named) in
+    large_is (tree_of ws) false few none
+
+pub build_some : (ws rest : List (List ℕ)) (x : Formula) → is_some (parse ws) ≡ true → nat_le (layers_in (tree_of ws)) 64 ≡ true → ((s : Sum) (t : List (List ℕ)) → ws ≡ sum_words s ++ t → EndsSum t → names_sum s ≡ true → Some (x, rest) ≡ built (depth_of s) 32 (means s) t) → (is_large (tree_of ws) ≡ false) × (x ≡ means (tree_of ws))
+build_some ws rest x h few ih =
+    let p = tree_is ws (parse ws) refl h in
+    let got = some_case (nat_le (depth_of (tree_of ws)) 32) (means (tree_of ws)) x rest p.0 (ih (tree_of ws) p.0 p.1.whole p.1.ends p.1.named) in
+    (large_is (tree_of ws) true few got.0, got.1)
+
+pub many_layers : (s : Sum) → nat_le (layers_in s) 64 ≡ false → is_large s ≡ true
+many_layers s h = λ i. lt-ltb 64 (layers_in s) (leb-false (layers_in s) 64 h) i || nat_lt 32 (depth_of s)

@@ -5,7 +5,7 @@ use Rattle.layer_map.specs.declared.rows.Row.{Row}
 use Rattle.layer_map.specs.declared.rows.Row.TheVariants.{Nothing, Wire, Cut, Fet, Label, Supply}
 use Rattle.layer_map.specs.Words.{words_of}
 use Rattle.layer_map.specs.Grammar.{Statement, nothing, wire, cut, fet, label, supply}
-use Rattle.layer_map.specs.Readers.{parse, tree_of}
+use Rattle.layer_map.specs.Readers.{parse, tree_of, is_nothing}
 
 abbrev pub row_seen : Row → Statement
 row_seen Nothing = nothing
@@ -19,8 +19,13 @@ row_seen (Supply side names) = supply side (words_of false names.now)
 pub record HasTree (bytes : List ℕ) : Type 0 where
   pub parsed : is_some (parse (words_of true bytes)) ≡ true
 
+-- The bytes hold a word.
+pub record HasList (bytes : List ℕ) : Type 0 where
+  pub some : is_nothing (words_of true bytes) ≡ false
+
 abbrev pub IsFormed : Row → Type 0
 IsFormed (Wire name expr) = HasTree expr.now
-IsFormed (Cut expr wires) = HasTree expr.now
+IsFormed (Cut expr wires) = HasTree expr.now × HasList wires.now
 IsFormed (Fet kind expr gate diff) = HasTree expr.now
+IsFormed (Label layer wires) = HasList wires.now
 IsFormed _ = Unit {0}

@@ -3,7 +3,7 @@
 //! The readers call each other only as deep as `(` and `!` are open, which the limit bounds, and once for each factor or
 //! product of a chain, which the limit on names of layers bounds.
 
-ghost use Rattle.std.specs.Prelude.{◌≡◌, ℕ, true, false, List, [], ◌∷◌, ◌++◌, Some, None, option_map, IfOk, IfSome, nat_le, length, ◌≤◌, if◌then◌else◌};
+ghost use Rattle.std.specs.Prelude.{◌≡◌, ℕ, true, false, List, [], ◌∷◌, ◌++◌, option_map, MatchOption, IfOk, IfSome, nat_le, length, ◌≤◌};
 ghost use Rattle.layer_map.specs.Words.{words_of};
 ghost use Rattle.layer_map.specs.Grammar.{Factor, factor_words, names_factor, depth_factor, Product, product_words, names_product, depth_product, Factors, factors_words, names_factors, depth_factors, Sum, sum_words, names_sum, depth_of, layers_in, Products, products_words, names_products, depth_products};
 ghost use Rattle.layer_map.specs.Truth.{factor_means, product_means, factors_mean, means, products_mean, formula_of};
@@ -152,7 +152,7 @@ fn has_few_layers(bytes: &[u8]) -> bool
 /// The expression with which the bytes begin, or none where it passes a limit.
 pub(crate) fn build(alloc: Global, bytes: &[u8]) -> Result<Option<Expr>, AllocError>
     requires { HasTree bytes.now }
-    ensures { IfOk result (λ o. option_map formula_of o ≡ (if is_large (tree_of (words_of true bytes.now)) then None else Some (means (tree_of (words_of true bytes.now))))) }
+    ensures { IfOk result (λ o. MatchOption o (is_large (tree_of (words_of true bytes.now)) ≡ true) (λ e. (is_large (tree_of (words_of true bytes.now)) ≡ false) × (formula_of e ≡ means (tree_of (words_of true bytes.now))))) }
 {
     if !has_few_layers(bytes) {
         return Ok(None);

@@ -1,14 +1,15 @@
 //! What a line adds to the map, unless it is at fault.
 
-ghost use Rattle.std.specs.Prelude.{◌≡◌, ◌≤◌, ◌||◌, true, false, Some, None, length, option_map, IfOk, if◌then◌else◌};
+ghost use Rattle.std.specs.Prelude.{◌≡◌, ◌≤◌, ◌||◌, true, false, Some, None, length, map, option_map, MatchOption, IfOk, if◌then◌else◌};
 ghost use Rattle.std.specs.Prelude.{position};
 ghost use Rattle.std.specs.List.{list_all, list_any, position_or_len};
 ghost use Rattle.std.specs.Str.{bytes_eq};
 ghost use Rattle.layer_map.specs.Words.{words_of};
 ghost use Rattle.layer_map.specs.Names.{is_among, are_distinct as are_distinct_lem};
 ghost use Rattle.layer_map.specs.Truth.{formula_of, is_unbounded as is_unbounded_lem};
+ghost use Rattle.layer_map.specs.Plan.{number_of as number_of_lem};
 ghost use Rattle.layer_map.specs.Adding.{numbers_at};
-ghost use Rattle.layer_map.specs.Views.{numbers_seen};
+ghost use Rattle.layer_map.specs.Views.{wire_seen, label_seen, numbers_seen};
 
 use crate::expr::Expr;
 use crate::map::{LabelLine, WireId, WireLine};
@@ -30,7 +31,7 @@ pub(crate) fn is_unbounded(expr: &Expr) -> bool
 
 /// Whether a wire has this name.
 pub(crate) fn is_wire(wires: &[WireLine], name: &[u8]) -> bool
-    ensures { result ≡ list_any (λ w. bytes_eq w.name name.now) wires.now }
+    ensures { result ≡ is_among name.now (map (λ w. w.name) (map wire_seen wires.now)) }
 {
     wires.iter().any(|wire| wire.name.as_bytes() == name)
 }
@@ -43,7 +44,7 @@ fn place_of(wires: &[WireLine], name: &[u8]) -> Option<usize>
 }
 
 /// The number of the wire with this name.
-pub(crate) fn wire_of(wires: &[WireLine], name: &[u8]) -> Option<WireId>
+fn number_of(wires: &[WireLine], name: &[u8]) -> Option<WireId>
     requires { length wires.now ≤ 16 }
     ensures { result ≡ (if list_any (λ w. bytes_eq w.name name.now) wires.now then Some (record { 0 = position_or_len (λ w. bytes_eq w.name name.now) wires.now }) else None) }
 {
@@ -52,7 +53,7 @@ pub(crate) fn wire_of(wires: &[WireLine], name: &[u8]) -> Option<WireId>
 }
 
 /// The numbers of the wires with these names, or none where one of them has no wire.
-pub(crate) fn wires_of(
+fn numbers_of(
     alloc: Global,
     wires: &[WireLine],
     names: &[u8],
@@ -63,13 +64,33 @@ pub(crate) fn wires_of(
     let mut numbers = Vec::new(alloc);
     let mut rest = names;
     while let Some((name, behind)) = next_word(rest) {
-        let Some(number) = wire_of(wires, name) else {
+        let Some(number) = number_of(wires, name) else {
             return Ok(None);
         };
         numbers.push(number)?;
         rest = behind;
     }
     Ok(Some(numbers))
+}
+
+/// The wire with this name, where there is one.
+pub(crate) fn wire_of(wires: &[WireLine], name: &[u8]) -> Option<WireId>
+    requires { length wires.now ≤ 16 }
+    ensures { MatchOption result (is_among name.now (map (λ w. w.name) (map wire_seen wires.now)) ≡ false) (λ w. (is_among name.now (map (λ w. w.name) (map wire_seen wires.now)) ≡ true) × (w.0 ≡ number_of_lem (map wire_seen wires.now) name.now)) }
+{
+    number_of(wires, name)
+}
+
+/// The wires with these names, or none where one of them has no wire.
+pub(crate) fn wires_of(
+    alloc: Global,
+    wires: &[WireLine],
+    names: &[u8],
+) -> Result<Option<Vec<WireId>>, AllocError>
+    requires { length wires.now ≤ 16 }
+    ensures { IfOk result (λ o. MatchOption o (list_all (λ n. is_among n (map (λ w. w.name) (map wire_seen wires.now))) (words_of true names.now) ≡ false) (λ v. (list_all (λ n. is_among n (map (λ w. w.name) (map wire_seen wires.now))) (words_of true names.now) ≡ true) × (numbers_seen v.items ≡ map (number_of_lem (map wire_seen wires.now)) (words_of true names.now)))) }
+{
+    numbers_of(alloc, wires, names)
 }
 
 /// How many words there are.
@@ -100,7 +121,7 @@ pub(crate) fn count_names(bytes: &[u8]) -> usize
 
 /// Whether a label line is of this layer.
 pub(crate) fn is_layer(labels: &[LabelLine], layer: Short) -> bool
-    ensures { result ≡ list_any (λ l. bytes_eq l.layer layer) labels.now }
+    ensures { result ≡ is_among layer (map (λ l. l.layer) (map label_seen labels.now)) }
 {
     labels
         .iter()

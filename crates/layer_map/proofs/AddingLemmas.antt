@@ -1,5 +1,5 @@
 -- What a line adds to the map.
-use Rattle.std.proofs.Common.{◌≡◌, ℕ, zero, suc, ◌+◌, ◌-◌, ◌<◌, ◌≤◌, Bool, true, false, cond, if◌then◌else◌, not, ◌&&◌, ◌||◌, List, [], ◌∷◌, ◌++◌, length, Option, Some, None, option_map, refl, sym, ap, ◌∙◌, subst, arith, ◌==◌, append_assoc, map, nat_lt, MatchOption}
+use Rattle.std.proofs.Common.{◌≡◌, ℕ, zero, suc, ◌+◌, ◌-◌, ◌<◌, ◌≤◌, Bool, true, false, cond, if◌then◌else◌, not, ◌&&◌, ◌||◌, List, [], ◌∷◌, ◌++◌, length, Option, Some, None, option_map, refl, sym, ap, ◌∙◌, subst, arith, ◌==◌, append_assoc, map, nat_lt, MatchOption, Result, Ok, Err, IfOk}
 use Rattle.std.specs.List.{list_any, list_all, position_or_len}
 use Rattle.std.specs.Str.{bytes_eq}
 use Rattle.std.proofs.lemmas.Bool.{lt-ltb, le-ltb, ltb-true, ltb-false}
@@ -137,3 +137,7 @@ wires_seen_so numbers wires names true None e h = absurd (cc)
 wires_seen_so numbers wires names true (Some v) e h = let same : numbers v ≡ map (λ n. position_or_len (has_name n) wires) names = cc in (all_same wires names ∙ e, same ∙ sym (numbers_same wires names))
 wires_seen_so numbers wires names false None e h = all_same wires names ∙ e
 wires_seen_so numbers wires names false (Some v) e h = absurd (cc)
+
+pub weaker : {A E : Type 0} (r : Result A E) (P Q : A → Type 0) → ((x : A) → P x → Q x) → IfOk r P → IfOk r Q
+weaker (Ok x) P Q f h = f x h
+weaker (Err e) P Q f h = h

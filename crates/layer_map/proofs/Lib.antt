@@ -1,4 +1,5 @@
 pub mod AddingLemmas
+pub mod FaultLemmas
 pub mod LineLemmas
 pub mod Parsing
 pub mod Steps

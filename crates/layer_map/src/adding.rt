@@ -1,6 +1,6 @@
 //! What each line adds to the map, unless it is at fault.
 
-ghost use Rattle.std.specs.Prelude.{true};
+ghost use Rattle.std.specs.Prelude.{◌≡◌, ◌++◌, OnOk};
 
 use crate::building::build;
 use crate::judge::{
@@ -38,7 +38,7 @@ impl LayerMap {
     ghost use Rattle.layer_map.specs.Grammar.{wire, cut, fet, label, supply};
     ghost use Rattle.layer_map.specs.Readers.{tree_of};
     ghost use Rattle.layer_map.specs.Faults.{fault_in};
-    ghost use Rattle.layer_map.specs.RowViews.{row_seen, HasTree, IsFormed};
+    ghost use Rattle.layer_map.specs.RowViews.{row_seen, HasTree, HasList, IsFormed};
     ghost use Rattle.layer_map.specs.Steps.{Adds};
 
     fn add_wire(
@@ -70,4 +70,172 @@ impl LayerMap {
             .map_err(AllocError::from)?;
         Ok(())
     }
+
+    fn add_cut(
+        &mut self,
+        alloc: Global,
+        number: u64,
+        expr: &[u8],
+        wires: &[u8],
+    ) -> Result<(), MapRefusal>
+        requires tree { HasTree expr.now }
+        requires list { HasList wires.now }
+        ensures added { OnOk result (Adds number self.old (cut (tree_of (words_of true expr.now)) (words_of true wires.now)) self.new) }
+        ensures fault { IfErr result (λ fault. fault ≢ MapRefusal.NoMemory → fault_in number self.old (cut (tree_of (words_of true expr.now)) (words_of true wires.now)) ≡ Some fault) }
+    {
+        if self.cuts.len() >= MOST_CUTS || count_wires(wires) > LONGEST_LIST {
+            return Err(MapRefusal::TooMany(number));
+        }
+        let Some(expr) = build(alloc, expr)? else {
+            return Err(MapRefusal::TooMany(number));
+        };
+        let Some(wires) = wires_of(alloc, &self.wires, wires)? else {
+            return Err(MapRefusal::UnknownWire(number));
+        };
+        if is_unbounded(&expr) {
+            return Err(MapRefusal::Unbounded(number));
+        }
+        self.cuts
+            .push(CutLine { expr, wires })
+            .map_err(AllocError::from)?;
+        Ok(())
+    }
+
+    fn add_fet(
+        &mut self,
+        alloc: Global,
+        number: u64,
+        kind: Kind,
+        expr: &[u8],
+        gate: &[u8],
+        diff: &[u8],
+    ) -> Result<(), MapRefusal>
+        requires { HasTree expr.now }
+        ensures added { OnOk result (Adds number self.old (fet kind (tree_of (words_of true expr.now)) gate.now diff.now) self.new) }
+        ensures fault { IfErr result (λ fault. fault ≢ MapRefusal.NoMemory → fault_in number self.old (fet kind (tree_of (words_of true expr.now)) gate.now diff.now) ≡ Some fault) }
+    {
+        if self.fets.len() >= MOST_FETS {
+            return Err(MapRefusal::TooMany(number));
+        }
+        let Some(channel) = build(alloc, expr)? else {
+            return Err(MapRefusal::TooMany(number));
+        };
+        let Some(gate) = wire_of(&self.wires, gate) else {
+            return Err(MapRefusal::UnknownWire(number));
+        };
+        let Some(diff) = wire_of(&self.wires, diff) else {
+            return Err(MapRefusal::UnknownWire(number));
+        };
+        if is_unbounded(&channel) {
+            return Err(MapRefusal::Unbounded(number));
+        }
+        self.fets
+            .push(FetLine {
+                kind,
+                channel,
+                gate,
+                diff,
+            })
+            .map_err(AllocError::from)?;
+        Ok(())
+    }
+
+    fn add_label(
+        &mut self,
+        alloc: Global,
+        number: u64,
+        layer: Short,
+        wires: &[u8],
+    ) -> Result<(), MapRefusal>
+        requires { HasList wires.now }
+        ensures added { OnOk result (Adds number self.old (label layer (words_of true wires.now)) self.new) }
+        ensures fault { IfErr result (λ fault. fault ≢ MapRefusal.NoMemory → fault_in number self.old (label layer (words_of true wires.now)) ≡ Some fault) }
+    {
+        if self.labels.len() >= MOST_LABELS || count_wires(wires) > LONGEST_LIST {
+            return Err(MapRefusal::TooMany(number));
+        }
+        let Some(wires) = wires_of(alloc, &self.wires, wires)? else {
+            return Err(MapRefusal::UnknownWire(number));
+        };
+        if is_layer(&self.labels, layer) {
+            return Err(MapRefusal::TwiceNamed(number));
+        }
+        self.labels
+            .push(LabelLine { layer, wires })
+            .map_err(AllocError::from)?;
+        Ok(())
+    }
+
+    fn add_high(&mut self, alloc: Global, number: u64, names: &[u8]) -> Result<(), MapRefusal>
+        ensures added { OnOk result (Adds number self.old (supply Side.High (words_of false names.now)) self.new) }
+        ensures fault { IfErr result (λ fault. fault ≢ MapRefusal.NoMemory → fault_in number self.old (supply Side.High (words_of false names.now)) ≡ Some fault) }
+    {
+        if self.high.len() + count_names(names) > MOST_NAMES {
+            return Err(MapRefusal::TooMany(number));
+        }
+        let names = names_of(alloc, names)?;
+        if is_any_supply(&self.high, &self.low, &names) || !are_distinct(&names) {
+            return Err(MapRefusal::TwiceNamed(number));
+        }
+        append(&mut self.high, names)?;
+        Ok(())
+    }
+
+    fn add_low(&mut self, alloc: Global, number: u64, names: &[u8]) -> Result<(), MapRefusal>
+        ensures added { OnOk result (Adds number self.old (supply Side.Low (words_of false names.now)) self.new) }
+        ensures fault { IfErr result (λ fault. fault ≢ MapRefusal.NoMemory → fault_in number self.old (supply Side.Low (words_of false names.now)) ≡ Some fault) }
+    {
+        if self.low.len() + count_names(names) > MOST_NAMES {
+            return Err(MapRefusal::TooMany(number));
+        }
+        let names = names_of(alloc, names)?;
+        if is_any_supply(&self.high, &self.low, &names) || !are_distinct(&names) {
+            return Err(MapRefusal::TwiceNamed(number));
+        }
+        append(&mut self.low, names)?;
+        Ok(())
+    }
+
+    /// Adds what the line with this number says, or answers its first fault.
+    pub(crate) fn add(
+        &mut self,
+        alloc: Global,
+        number: u64,
+        row: Row<'_>,
+    ) -> Result<(), MapRefusal>
+        requires { IsFormed row }
+        ensures added { OnOk result (Adds number self.old (row_seen row.entry) self.new) }
+        ensures fault { IfErr result (λ fault. fault ≢ MapRefusal.NoMemory → fault_in number self.old (row_seen row.entry) ≡ Some fault) }
+    {
+        match row {
+            Row::Nothing => Ok(()),
+            Row::Wire { name, expr } => self.add_wire(alloc, number, name, expr),
+            Row::Cut { expr, wires } => self.add_cut(alloc, number, expr, wires),
+            Row::Fet {
+                kind,
+                expr,
+                gate,
+                diff,
+            } => self.add_fet(alloc, number, kind, expr, gate, diff),
+            Row::Label { layer, wires } => self.add_label(alloc, number, layer, wires),
+            Row::Supply {
+                side: Side::High,
+                names,
+            } => self.add_high(alloc, number, names),
+            Row::Supply {
+                side: Side::Low,
+                names,
+            } => self.add_low(alloc, number, names),
+        }
+    }
+}
+
+/// Puts the names behind the others.
+fn append(names: &mut Vec<Label>, others: Vec<Label>) -> Result<(), AllocError>
+    ensures { OnOk result (names.new.items ≡ names.old.items ++ others.items) }
+{
+    for name in others {
+        names.push(name)?;
+    }
+    Ok(())
 }

@@ -30,10 +30,17 @@ pub(crate) fn is_unbounded(expr: &Expr) -> bool
 }
 
 /// Whether a wire has this name.
+fn any_wire(wires: &[WireLine], name: &[u8]) -> bool
+    ensures { result ≡ list_any (λ w. bytes_eq w.name name.now) wires.now }
+{
+    wires.iter().any(|wire| wire.name.as_bytes() == name)
+}
+
+/// Whether a wire of the map has this name.
 pub(crate) fn is_wire(wires: &[WireLine], name: &[u8]) -> bool
     ensures { result ≡ is_among name.now (map (λ w. w.name) (map wire_seen wires.now)) }
 {
-    wires.iter().any(|wire| wire.name.as_bytes() == name)
+    any_wire(wires, name)
 }
 
 /// The place of the wire with this name.
@@ -120,12 +127,19 @@ pub(crate) fn count_names(bytes: &[u8]) -> usize
 }
 
 /// Whether a label line is of this layer.
-pub(crate) fn is_layer(labels: &[LabelLine], layer: Short) -> bool
-    ensures { result ≡ is_among layer (map (λ l. l.layer) (map label_seen labels.now)) }
+fn any_label(labels: &[LabelLine], layer: Short) -> bool
+    ensures { result ≡ list_any (λ l. bytes_eq l.layer layer) labels.now }
 {
     labels
         .iter()
         .any(|label| label.layer.as_bytes() == layer.as_bytes())
+}
+
+/// Whether a label line of the map is of this layer.
+pub(crate) fn is_layer(labels: &[LabelLine], layer: Short) -> bool
+    ensures { result ≡ is_among layer (map (λ l. l.layer) (map label_seen labels.now)) }
+{
+    any_label(labels, layer)
 }
 
 /// Whether a supply has this name.

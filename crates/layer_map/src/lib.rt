@@ -13,12 +13,16 @@ mod building;
 mod expr;
 mod expressions;
 mod judge;
+mod laws;
 mod map;
 mod names;
+mod reading;
 mod refusal;
 mod rows;
 mod words;
 
 pub use expr::Expr;
+pub use laws::one_answer;
 pub use map::{CutLine, FetLine, LabelLine, LayerMap, WireId, WireLine};
+pub use reading::read;
 pub use refusal::{MapRefusal, Side};

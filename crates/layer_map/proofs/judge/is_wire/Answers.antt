@@ -3,4 +3,4 @@ use Rattle.layer_map.proofs.AddingLemmas.{names_any}
 use Rattle.layer_map.proofs.judge.is_wire.Goals as goal
 
 pub returns : goal.returns
-returns c = ? ∙ sym (names_any c.args.name.now c.args.wires.now)
+returns c = c.any_wire.ensures ∙ sym (names_any c.args.name.now c.args.wires.now)

@@ -1,6 +1,8 @@
 -- What a line adds to the map.
 use Rattle.std.proofs.Common.{◌≡◌, ℕ, zero, suc, ◌+◌, ◌-◌, ◌<◌, ◌≤◌, Bool, true, false, cond, if◌then◌else◌, not, ◌&&◌, ◌||◌, List, [], ◌∷◌, ◌++◌, length, Option, Some, None, option_map, refl, sym, ap, ◌∙◌, subst, arith, ◌==◌, append_assoc, map, nat_lt, MatchOption, Result, Ok, Err, IfOk}
 use Rattle.std.specs.List.{list_any, list_all, position_or_len}
+use Rattle.std.specs.Prelude.{Vec}
+use Rattle.std.specs.Global.{Global}
 use Rattle.std.specs.Str.{bytes_eq}
 use Rattle.std.proofs.lemmas.Bool.{lt-ltb, le-ltb, ltb-true, ltb-false}
 use Rattle.layer_map.specs.declared.map.WireId.{WireId}
@@ -8,7 +10,7 @@ use Rattle.layer_map.specs.declared.map.WireLine.{WireLine}
 use Rattle.layer_map.specs.declared.map.LabelLine.{LabelLine}
 use Rattle.layer_map.specs.Names.{is_among, are_distinct}
 use Rattle.layer_map.specs.Plan.{Wire, Cut, Fet, LabelWires, Plan, number_of, AreNumbers, IsKeptCut, IsKeptFet, IsKept}
-use Rattle.layer_map.specs.Views.{wire_seen, label_seen}
+use Rattle.layer_map.specs.Views.{wire_seen, label_seen, numbers_seen}
 use Rattle.layer_map.specs.Truth.{is_unbounded}
 use Rattle.layer_map.specs.Adding.{numbers_at}
 use Rattle.layer_map.specs.Readers.{first_of}
@@ -138,6 +140,6 @@ wires_seen_so numbers wires names true (Some v) e h = let same : numbers v ≡ m
 wires_seen_so numbers wires names false None e h = all_same wires names ∙ e
 wires_seen_so numbers wires names false (Some v) e h = absurd (cc)
 
-pub weaker : {A E : Type 0} (r : Result A E) (P Q : A → Type 0) → ((x : A) → P x → Q x) → IfOk r P → IfOk r Q
-weaker (Ok x) P Q f h = f x h
-weaker (Err e) P Q f h = h
+pub all_found : {E : Type 0} (r : Result (Option (Vec WireId Global)) E) (wires : List WireLine) (names : List (List ℕ)) → IfOk r (λ o. option_map (λ (v : Vec WireId Global). numbers_seen v.items) o ≡ numbers_at wires names) → IfOk r (λ o. MatchOption o (list_all (λ n. is_among n (map (λ w. w.name) (map wire_seen wires))) names ≡ false) (λ v. (list_all (λ n. is_among n (map (λ w. w.name) (map wire_seen wires))) names ≡ true) × (numbers_seen v.items ≡ map (number_of (map wire_seen wires)) names)))
+all_found (Ok o) wires names h = wires_seen_so (λ (v : Vec WireId Global). numbers_seen v.items) wires names (list_all (λ n. list_any (has_name n) wires) names) o refl h
+all_found (Err e) wires names h = h

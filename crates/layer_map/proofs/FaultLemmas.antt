@@ -10,9 +10,15 @@ use Rattle.layer_map.specs.declared.refusal.MapRefusal.TheVariants.{UnknownWire,
 use Rattle.layer_map.specs.declared.refusal.Side.TheVariants.{High, Low}
 use Rattle.layer_map.specs.Names.{is_among, are_distinct}
 use Rattle.layer_map.specs.Grammar.{Sum, Statement, wire, cut, fet, label, supply}
-use Rattle.layer_map.specs.Truth.{is_unbounded, means}
+use Rattle.layer_map.specs.Truth.{is_unbounded, means, formula_of}
 use Rattle.layer_map.specs.Plan.{Wire, Cut, Fet, LabelWires, Plan, number_of, AreNumbers, IsKeptCut, IsKeptFet, IsKept}
 use Rattle.layer_map.specs.Faults.{passes_limit, uses_unknown, is_twice, has_unbounded, fault_in, is_large}
+use Rattle.layer_map.specs.declared.map.WireLine.{WireLine}
+use Rattle.layer_map.specs.declared.map.CutLine.{CutLine}
+use Rattle.layer_map.specs.declared.map.FetLine.{FetLine}
+use Rattle.layer_map.specs.declared.map.LabelLine.{LabelLine}
+use Rattle.layer_map.specs.Views.{wire_seen, cut_seen, fet_seen, label_seen}
+use Rattle.layer_map.specs.Readers.{is_nothing}
 use Rattle.layer_map.specs.Steps.{Adds, with_line}
 use Rattle.layer_map.proofs.AddingLemmas.{any_by_place, any_map}
 
@@ -128,3 +134,40 @@ number_known wires n h = ltb-true _ _ (sym (any_by_place (λ (w : Wire). bytes_e
 pub numbers_known : (wires : List Wire) (names : List (List ℕ)) → list_all (λ n. is_among n (map (λ w. w.name) wires)) names ≡ true → AllByRecursion (λ k. k < length wires) (map (number_of wires) names)
 numbers_known wires [] h = tt
 numbers_known wires (n ∷ ns) h = let all = and_parts (is_among n (map (λ w. w.name) wires)) (list_all (λ n. is_among n (map (λ w. w.name) wires)) ns) h in (number_known wires n all.0, numbers_known wires ns all.1)
+
+-- ---- the same of what the code holds
+
+map_length : {A B : Type 0} (f : A → B) (xs : List A) → length (map f xs) ≡ length xs
+map_length f [] = refl
+map_length f (x ∷ xs) = let h = map_length f xs in omega (arith, h)
+
+pub kept_with_wire : (items new : List WireLine) (w : WireLine) (p : Plan) → p.wires ≡ map wire_seen items → new ≡ items ++ (w ∷ []) → IsKept p → length items < 16 → is_unbounded (formula_of w.expr) ≡ false → IsKept (record p { wires = map wire_seen new })
+kept_with_wire items new w p is e h few bounded =
+    let size : length p.wires ≡ length items = ap length is ∙ map_length wire_seen items in
+    subst (λ ws. IsKept (record p { wires = ws })) (ap (λ xs. xs ++ (wire_seen w ∷ [])) is ∙ sym (map_more wire_seen items w) ∙ ap (map wire_seen) (sym e)) (kept_wire p (wire_seen w) h (omega (arith, size, few)) bounded)
+
+pub kept_with_cut : (items new : List CutLine) (c : CutLine) (p : Plan) → p.cuts ≡ map cut_seen items → new ≡ items ++ (c ∷ []) → IsKept p → IsKeptCut (length p.wires) (cut_seen c) → IsKept (record p { cuts = map cut_seen new })
+kept_with_cut items new c p is e h k = subst (λ ws. IsKept (record p { cuts = ws })) (ap (λ xs. xs ++ (cut_seen c ∷ [])) is ∙ sym (map_more cut_seen items c) ∙ ap (map cut_seen) (sym e)) (kept_cut p (cut_seen c) h k)
+
+pub kept_with_fet : (items new : List FetLine) (c : FetLine) (p : Plan) → p.fets ≡ map fet_seen items → new ≡ items ++ (c ∷ []) → IsKept p → IsKeptFet (length p.wires) (fet_seen c) → IsKept (record p { fets = map fet_seen new })
+kept_with_fet items new c p is e h k = subst (λ ws. IsKept (record p { fets = ws })) (ap (λ xs. xs ++ (fet_seen c ∷ [])) is ∙ sym (map_more fet_seen items c) ∙ ap (map fet_seen) (sym e)) (kept_fet p (fet_seen c) h k)
+
+pub kept_with_label : (items new : List LabelLine) (c : LabelLine) (p : Plan) → p.labels ≡ map label_seen items → new ≡ items ++ (c ∷ []) → IsKept p → AreNumbers (length p.wires) (label_seen c).wires → is_among (label_seen c).layer (map (λ x. x.layer) p.labels) ≡ false → IsKept (record p { labels = map label_seen new })
+kept_with_label items new c p is e h k once = subst (λ ws. IsKept (record p { labels = ws })) (ap (λ xs. xs ++ (label_seen c ∷ [])) is ∙ sym (map_more label_seen items c) ∙ ap (map label_seen) (sym e)) (kept_label p (label_seen c) h k once)
+
+-- a list of numbers of known wires
+pub are_numbers : (wires : List Wire) (names : List (List ℕ)) (numbers : List ℕ) → is_nothing names ≡ false → list_all (λ n. is_among n (map (λ w. w.name) wires)) names ≡ true → numbers ≡ map (number_of wires) names → AreNumbers (length wires) numbers
+are_numbers wires [] numbers some h e = cc
+are_numbers wires (n ∷ ns) numbers some h e = subst (AreNumbers (length wires)) (sym e) (record { some = omega arith; known = numbers_known wires (n ∷ ns) h })
+
+pub is_number : (wires : List Wire) (n : List ℕ) (k : ℕ) → is_among n (map (λ w. w.name) wires) ≡ true → k ≡ number_of wires n → k < length wires
+is_number wires n k h e = omega (arith, number_known wires n h, e)
+
+pub numbers_at_hand : (items other : List WireLine) (names : List (List ℕ)) (numbers : List ℕ) → other ≡ items → is_nothing names ≡ false → (list_all (λ n. is_among n (map (λ w. w.name) (map wire_seen other))) names ≡ true) × (numbers ≡ map (number_of (map wire_seen other)) names) → AreNumbers (length (map wire_seen items)) numbers
+numbers_at_hand items other names numbers e some h = subst (λ xs. AreNumbers (length (map wire_seen xs)) numbers) e (are_numbers (map wire_seen other) names numbers some h.0 h.1)
+
+pub number_at_hand : (items other : List WireLine) (n : List ℕ) (k : ℕ) → other ≡ items → (is_among n (map (λ w. w.name) (map wire_seen other)) ≡ true) × (k ≡ number_of (map wire_seen other) n) → k < length (map wire_seen items)
+number_at_hand items other n k e h = subst (λ xs. k < length (map wire_seen xs)) e (is_number (map wire_seen other) n k h.0 h.1)
+
+pub layer_at_hand : (items other : List LabelLine) (l : List ℕ) → other ≡ items → false ≡ is_among l (map (λ x. x.layer) (map label_seen other)) → is_among l (map (λ x. x.layer) (map label_seen items)) ≡ false
+layer_at_hand items other l e h = subst (λ xs. is_among l (map (λ x. x.layer) (map label_seen xs)) ≡ false) e (sym h)

@@ -409,7 +409,7 @@ pub first_is : (rest next : List (List ℕ)) (w : List ℕ) → ◌≡◌ {A = O
 first_is [] next w h = cc
 first_is (x ∷ xs) next w h = let same : ◌≡◌ {A = List ℕ × List (List ℕ)} (w, next) (x, xs) = cc in λ i. ap (λ (y : List ℕ × List (List ℕ)). y.0) (sym same) i ∷ ap (λ (y : List ℕ × List (List ℕ)). y.1) (sym same) i
 
-none_first : (rest : List (List ℕ)) → ◌≡◌ {A = Option (List ℕ × List (List ℕ))} None (first_of rest) → rest ≡ []
+pub none_first : (rest : List (List ℕ)) → ◌≡◌ {A = Option (List ℕ × List (List ℕ))} None (first_of rest) → rest ≡ []
 none_first [] h = refl
 none_first (x ∷ xs) h = cc
 

@@ -1,6 +1,6 @@
 //! What each line adds to the map, unless it is at fault.
 
-ghost use Rattle.std.specs.Prelude.{◌≡◌, ◌++◌, OnOk};
+ghost use Rattle.std.specs.Prelude.{◌≡◌, [], ◌∷◌, ◌++◌, OnOk, is_ok, if◌then◌else◌};
 
 use crate::building::build;
 use crate::judge::{
@@ -34,6 +34,7 @@ const LONGEST_LIST: usize = 16;
 
 impl LayerMap {
     ghost use Rattle.std.specs.Prelude.{◌≡◌, ◌≢◌, true, false, OnOk, IfErr, Some};
+    ghost use Rattle.plane_geom.specs.Names.{is_short};
     ghost use Rattle.layer_map.specs.Words.{words_of};
     ghost use Rattle.layer_map.specs.Grammar.{wire, cut, fet, label, supply};
     ghost use Rattle.layer_map.specs.Readers.{tree_of};
@@ -65,9 +66,7 @@ impl LayerMap {
             return Err(MapRefusal::Unbounded(number));
         }
         let name = Label::new(alloc, name)?;
-        self.wires
-            .push(WireLine { name, expr })
-            .map_err(AllocError::from)?;
+        push(&mut self.wires, WireLine { name, expr })?;
         Ok(())
     }
 
@@ -95,9 +94,7 @@ impl LayerMap {
         if is_unbounded(&expr) {
             return Err(MapRefusal::Unbounded(number));
         }
-        self.cuts
-            .push(CutLine { expr, wires })
-            .map_err(AllocError::from)?;
+        push(&mut self.cuts, CutLine { expr, wires })?;
         Ok(())
     }
 
@@ -129,14 +126,12 @@ impl LayerMap {
         if is_unbounded(&channel) {
             return Err(MapRefusal::Unbounded(number));
         }
-        self.fets
-            .push(FetLine {
+        push(&mut self.fets, FetLine {
                 kind,
                 channel,
                 gate,
                 diff,
-            })
-            .map_err(AllocError::from)?;
+            })?;
         Ok(())
     }
 
@@ -144,12 +139,13 @@ impl LayerMap {
         &mut self,
         alloc: Global,
         number: u64,
-        layer: Short,
+        layer: &[u8],
         wires: &[u8],
     ) -> Result<(), MapRefusal>
-        requires { HasList wires.now }
-        ensures added { OnOk result (Adds number self.old (label layer (words_of true wires.now)) self.new) }
-        ensures fault { IfErr result (λ fault. fault ≢ MapRefusal.NoMemory → fault_in number self.old (label layer (words_of true wires.now)) ≡ Some fault) }
+        requires list { HasList wires.now }
+        requires short { is_short layer.now ≡ true }
+        ensures added { OnOk result (Adds number self.old (label layer.now (words_of true wires.now)) self.new) }
+        ensures fault { IfErr result (λ fault. fault ≢ MapRefusal.NoMemory → fault_in number self.old (label layer.now (words_of true wires.now)) ≡ Some fault) }
     {
         if self.labels.len() >= MOST_LABELS || count_wires(wires) > LONGEST_LIST {
             return Err(MapRefusal::TooMany(number));
@@ -157,12 +153,11 @@ impl LayerMap {
         let Some(wires) = wires_of(alloc, &self.wires, wires)? else {
             return Err(MapRefusal::UnknownWire(number));
         };
+        let layer = Short::new(layer).unwrap();
         if is_layer(&self.labels, layer) {
             return Err(MapRefusal::TwiceNamed(number));
         }
-        self.labels
-            .push(LabelLine { layer, wires })
-            .map_err(AllocError::from)?;
+        push(&mut self.labels, LabelLine { layer, wires })?;
         Ok(())
     }
 
@@ -170,7 +165,7 @@ impl LayerMap {
         ensures added { OnOk result (Adds number self.old (supply Side.High (words_of false names.now)) self.new) }
         ensures fault { IfErr result (λ fault. fault ≢ MapRefusal.NoMemory → fault_in number self.old (supply Side.High (words_of false names.now)) ≡ Some fault) }
     {
-        if self.high.len() + count_names(names) > MOST_NAMES {
+        if self.high.len().saturating_add(count_names(names)) > MOST_NAMES {
             return Err(MapRefusal::TooMany(number));
         }
         let names = names_of(alloc, names)?;
@@ -185,7 +180,7 @@ impl LayerMap {
         ensures added { OnOk result (Adds number self.old (supply Side.Low (words_of false names.now)) self.new) }
         ensures fault { IfErr result (λ fault. fault ≢ MapRefusal.NoMemory → fault_in number self.old (supply Side.Low (words_of false names.now)) ≡ Some fault) }
     {
-        if self.low.len() + count_names(names) > MOST_NAMES {
+        if self.low.len().saturating_add(count_names(names)) > MOST_NAMES {
             return Err(MapRefusal::TooMany(number));
         }
         let names = names_of(alloc, names)?;
@@ -228,6 +223,14 @@ impl LayerMap {
             } => self.add_low(alloc, number, names),
         }
     }
+}
+
+/// Puts a value at the end.
+fn push<T: Drop>(items: &mut Vec<T>, item: T) -> Result<(), AllocError>
+    ensures { items.new.items ≡ (if is_ok result then items.old.items ++ item ∷ [] else items.old.items) }
+{
+    items.push(item)?;
+    Ok(())
 }
 
 /// Puts the names behind the others.

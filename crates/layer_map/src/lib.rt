@@ -19,6 +19,8 @@ mod names;
 mod reading;
 mod refusal;
 mod rows;
+#[cfg(test)]
+mod tests;
 mod words;
 
 pub use expr::Expr;

@@ -3,9 +3,11 @@
 ghost use Rattle.std.specs.Prelude.{◌≡◌, true, false, not, ◌&&◌};
 ghost use Rattle.std.specs.List.{list_all};
 ghost use Rattle.layer_map.specs.Names.{is_wire_byte as is_wire_byte_lem, is_wire_name as is_wire_name_lem, is_name_byte as is_name_byte_lem, is_name as is_name_lem};
+ghost use Rattle.plane_geom.specs.Names.{is_short as is_short_lem};
 ghost use Rattle.layer_map.specs.Words.{words_of};
 ghost use Rattle.layer_map.specs.Readers.{is_nothing, are_wires as are_wires_lem};
 
+use plane_geom::Short;
 use crate::words::{next_name, next_word};
 
 /// The longest name of a wire, in bytes.
@@ -13,6 +15,13 @@ const LONGEST_WIRE_NAME: usize = 16;
 
 /// The longest name of a supply, in bytes.
 const LONGEST_NAME: usize = 64;
+
+/// Whether the word is the name of a layer.
+pub(crate) fn is_short(word: &[u8]) -> bool
+    ensures { result ≡ is_short_lem word.now }
+{
+    Short::new(word).is_some()
+}
 
 fn are_wire_bytes(word: &[u8]) -> bool
     ensures { result ≡ list_all is_wire_byte_lem word.now }

@@ -6,10 +6,9 @@ ghost use Rattle.layer_map.specs.Readers.{wire_at, cut_at, kind_at, terminals_at
 ghost use Rattle.layer_map.specs.RowViews.{row_seen, IsFormed};
 
 use crate::expressions::expression_of;
-use crate::names::{are_names, are_wires, is_blank_line, is_wire_name};
+use crate::names::{are_names, are_wires, is_blank_line, is_short, is_wire_name};
 use crate::refusal::Side;
 use crate::words::{behind, next_name, next_word};
-use plane_geom::Short;
 use switch_net::Kind;
 
 /// What a line says. An expression is kept as the bytes that begin with it, a list as the bytes that hold it.
@@ -32,7 +31,7 @@ pub(crate) enum Row<'a> {
         diff: &'a [u8],
     },
     Label {
-        layer: Short,
+        layer: &'a [u8],
         wires: &'a [u8],
     },
     Supply {
@@ -119,8 +118,7 @@ fn label_of(bytes: &[u8]) -> Option<Row<'_>>
     ensures formed { IfSome result IsFormed }
 {
     let (layer, wires) = next_word(bytes)?;
-    let layer = Short::new(layer)?;
-    if are_wires(wires) {
+    if is_short(layer) && are_wires(wires) {
         Some(Row::Label { layer, wires })
     } else {
         None

@@ -1,7 +1,8 @@
-use Rattle.std.proofs.Common.{refl}
-use Rattle.layer_map.specs.Views.{numbers_seen}
-use Rattle.layer_map.proofs.AddingLemmas.{weaker, wires_seen_so}
+use Rattle.std.specs.declared.alloc.AllocError.{AllocError}
+use Rattle.std.proofs.Common.{true}
+use Rattle.layer_map.specs.Words.{words_of}
+use Rattle.layer_map.proofs.AddingLemmas.{all_found}
 use Rattle.layer_map.proofs.judge.wires_of.Goals as goal
 
 pub returns : goal.returns
-returns c = weaker _ _ _ (λ o h. wires_seen_so (λ v. numbers_seen v.items) c.args.wires.now _ _ o refl h) c.numbers_of.ensures
+returns c = all_found c.numbers_of.result c.args.wires.now (words_of true c.args.names.now) c.numbers_of.ensures

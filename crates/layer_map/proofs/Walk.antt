@@ -179,3 +179,12 @@ one_fault text f g a b = let same : refuses f ≡ refuses g = sym (refuses_so te
 
 pub not_both : (text : List ℕ) (p : Plan) (f : MapRefusal) → Accepts text p → Refuses text f → ⊥
 not_both text p f a b = let same : accepts p ≡ refuses f = sym (accepts_so text p a) ∙ refuses_so text f b in cc
+
+pub names_of_side : (names other : List (List ℕ)) (n : ℕ) (t : Bool) → names ≡ other → n ≡ length names → t ≡ (n == 0) → (length other == 0) ≡ t
+names_of_side names other n t e size h = sym (h ∙ ap (λ m. m == 0) (size ∙ ap length e))
+
+pub first_side : (text rest : List ℕ) (plan : Plan) (number : ℕ) → Reached text rest plan number → ◌≡◌ {A = Option (List ℕ × List (List ℕ))} None (first_of (lines_of rest)) → (length plan.high == 0) ≡ true → Refuses text (NoSupplyLine High)
+first_side text rest plan number r e h = no_supply text rest plan number (NoSupplyLine High) r e (ap (λ t. if t then Some (NoSupplyLine High) else if length plan.low == 0 then Some (NoSupplyLine Low) else None) h)
+
+pub second_side : (text rest : List ℕ) (plan : Plan) (number : ℕ) → Reached text rest plan number → ◌≡◌ {A = Option (List ℕ × List (List ℕ))} None (first_of (lines_of rest)) → (length plan.high == 0) ≡ false → (length plan.low == 0) ≡ true → Refuses text (NoSupplyLine Low)
+second_side text rest plan number r e h k = no_supply text rest plan number (NoSupplyLine Low) r e (λ i. if h i then Some (NoSupplyLine High) else if k i then Some (NoSupplyLine Low) else None)

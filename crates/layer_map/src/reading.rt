@@ -29,7 +29,9 @@ pub fn read(alloc: Global, bytes: &[u8]) -> Result<LayerMap, MapRefusal>
         let Some(row) = row_of(line) else {
             return Err(MapRefusal::BadLine(number));
         };
-        map.add(alloc, number, row)?;
+        if let Err(fault) = map.add(alloc, number, row) {
+            return Err(fault);
+        }
         rest = behind;
     }
     if map.high.is_empty() {

@@ -1,0 +1,9 @@
+pub mod AddingLemmas
+pub mod FaultLemmas
+pub mod LineLemmas
+pub mod Parsing
+pub mod RowLemmas
+pub mod Steps
+pub mod TreeLemmas
+pub mod Walk
+pub mod WordLemmas

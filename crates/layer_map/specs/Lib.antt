@@ -1,0 +1,14 @@
+pub mod Adding
+pub mod Building
+pub mod Codes
+pub mod Faults
+pub mod Grammar
+pub mod Lines
+pub mod Names
+pub mod Plan
+pub mod Readers
+pub mod Steps
+pub mod Truth
+pub mod RowViews
+pub mod Views
+pub mod Words

@@ -1,58 +1,37 @@
--- The boxes of a layout of the thin form.
-use Rattle.std.proofs.Common.{ℕ, ◌^◌, Bool, true, false, List, [], ◌∷◌, ◌++◌, All, arith, if◌then◌else◌}
-use Rattle.std.specs.Prelude.{ℤ, bytes_eq}
-use Rattle.std.proofs.lemmas.List.Elements.{All-nil, All-cons}
-use Rattle.std.specs.List.{AllByRecursion}
+-- The boxes of a layout have cells.
+use Rattle.std.proofs.Common.{◌≡◌, ℕ, Bool, true, false, ◌&&◌, List, [], ◌∷◌, ◌++◌, All, refl, arith, if◌then◌else◌}
+use Rattle.std.specs.Prelude.{ℤ, int_lt, bytes_eq}
+use Rattle.std.proofs.lemmas.Bool.{and_parts}
+use Rattle.std.proofs.lemmas.Bool.Decides.{nat_tests}
 use Rattle.std.proofs.lemmas.Int.{ints}
+use Rattle.std.proofs.lemmas.List.Elements.{All-nil, All-cons, All-append}
 use Rattle.plane_geom.specs.declared.shapes.Rect.{Rect}
-use Rattle.plane_geom.specs.declared.shapes.Shape.TheVariants.{Block, Polygon, Wire}
-use Rattle.plane_geom.specs.Bounds.{IsWithin, IsRectWithin}
+use Rattle.plane_geom.specs.Covering.{Figure, block, polygon, wire, figure_of}
 use Rattle.cif_reader.specs.declared.file.Item.{Item}
 use Rattle.cif_reader.specs.declared.file.What.{What}
-use Rattle.cif_reader.specs.declared.file.What.TheVariants.{Draw, Mark}
-use Rattle.cif_reader.specs.Grammar.{metal}
-use Rattle.cif_reader.specs.Reading.{IsThinWhat, IsThinItem, IsThinBox}
+use Rattle.cif_reader.specs.declared.file.What.TheVariants.{Draw, Call, Mark}
 use Rattle.carafe_core.specs.Nets.{HasCells}
-use Rattle.carafe_core.specs.Drawing.{drawn, boxes_of}
+use Rattle.carafe_core.specs.Drawing.{metal, with_cells, box_in, drawn, boxes_of}
 
--- what each box of the thin form has
-pub record IsSound (box : Rect) : Type 0 where
-  pub cells : HasCells box
-  pub within : IsRectWithin (2 ^ 24) box
+cells_if : (box : Rect) (across up : Bool) → int_lt box.x0 box.x1 ≡ across → int_lt box.y0 box.y1 ≡ up → All HasCells (if across && up then box ∷ [] else [])
+cells_if box true true across up = All-cons HasCells box [] (record { across = grind (arith, nat_tests, ints, across); up = grind (arith, nat_tests, ints, up) }) (All-nil HasCells)
+cells_if box true false across up = All-nil HasCells
+cells_if box false up across is = All-nil HasCells
 
-wider : (z : ℤ) → IsWithin 40000 z → IsWithin (2 ^ 24) z
-wider z near = let low = near.low in let high = near.high in record { low = omega (arith, ints); high = omega (arith, ints) }
+figure_cells : (figure : Figure) → All HasCells (box_in figure)
+figure_cells (block box) = cells_if box (int_lt box.x0 box.x1) (int_lt box.y0 box.y1) refl refl
+figure_cells (polygon points) = All-nil HasCells
+figure_cells (wire half path) = All-nil HasCells
 
-sound : (on : List ℕ) (box : Rect) → IsThinBox on box → IsSound box
-sound on box thin = record {
-  cells = record { across = thin.wide; up = thin.high };
-  within = record { x0 = wider box.x0 thin.within.x0; y0 = wider box.y0 thin.within.y0; x1 = wider box.x1 thin.within.x1; y1 = wider box.y1 thin.within.y1 };
-}
+on_metal : (t : Bool) (figure : Figure) → All HasCells (if t then box_in figure else [])
+on_metal true figure = figure_cells figure
+on_metal false figure = All-nil HasCells
 
-one_if : (t : Bool) (box : Rect) → IsSound box → AllByRecursion IsSound (if t then box ∷ [] else [])
-one_if true box h = (h, tt)
-one_if false box h = tt
+what_cells : (what : What) → All HasCells (drawn what)
+what_cells (Draw layer shape) = on_metal (bytes_eq layer metal) (figure_of shape)
+what_cells (Call symbol place) = All-nil HasCells
+what_cells (Mark name at layer) = All-nil HasCells
 
-sound_what : (what : What) → IsThinWhat what → AllByRecursion IsSound (drawn what)
-sound_what (Draw on (Block box)) thin = one_if (bytes_eq on metal) box (sound on box thin)
-sound_what (Draw on (Polygon points)) thin = tt
-sound_what (Draw on (Wire half path)) thin = tt
-sound_what (Mark name at on) thin = tt
-
-all_append : (xs ys : List Rect) → AllByRecursion IsSound xs → AllByRecursion IsSound ys → AllByRecursion IsSound (xs ++ ys)
-all_append [] ys h k = k
-all_append (x ∷ xs) ys h k = (h.0, all_append xs ys h.1 k)
-
-sound_boxes : (items : List Item) → AllByRecursion IsThinItem items → AllByRecursion IsSound (boxes_of items)
-sound_boxes [] thin = tt
-sound_boxes (item ∷ items) thin = all_append (drawn item.what) (boxes_of items) (sound_what item.what thin.0) (sound_boxes items thin.1)
-
-each : (xs : List Rect) → AllByRecursion IsSound xs → All IsSound xs
-each [] h = All-nil IsSound
-each (x ∷ xs) h = All-cons IsSound x xs h.0 (each xs h.1)
-
-pub have_cells : (items : List Item) → AllByRecursion IsThinItem items → All HasCells (boxes_of items)
-have_cells items thin k d within = (each (boxes_of items) (sound_boxes items thin) k d within).cells
-
-pub lie_within : (items : List Item) → AllByRecursion IsThinItem items → All (IsRectWithin (2 ^ 24)) (boxes_of items)
-lie_within items thin k d within = (each (boxes_of items) (sound_boxes items thin) k d within).within
+pub have_cells : (items : List Item) → All HasCells (boxes_of items)
+have_cells [] = All-nil HasCells
+have_cells (item ∷ items) = All-append HasCells (drawn item.what) (boxes_of items) (what_cells item.what) (have_cells items)

@@ -1,18 +1,24 @@
 -- Where a shelf tells its files, at most one refusal has its cause, and none has where there is a report.
-use Rattle.std.proofs.Common.{◌≡◌, ℕ, List, [], Option, Some, ◌⊎◌, inl, inr, get_or, unwrap_or, refl, sym, ◌∙◌, ap, subst}
+use Rattle.std.proofs.Common.{◌≡◌, ℕ, ◌<◌, ◌≤◌, List, [], length, Option, Some, ◌⊎◌, inl, inr, get_or, unwrap_or, refl, sym, ◌∙◌, ap, subst, arith}
+use Rattle.std.specs.Prelude.{IsSomeAnd}
 use Rattle.probe_io.specs.Files.{File, file_of, IsFile, Lacks}
-use Rattle.cif_reader.specs.Reading.{Reads}
+use Rattle.cif_reader.specs.declared.refusal.CifRefusal.{CifRefusal}
+use Rattle.cif_reader.specs.declared.refusal.CifRefusal.TheVariants.{CifTooLong, Syntax, NumberTooLarge, Unsupported, NotManhattan, NoLayer, TwiceDefined, ZeroScale, OffGrid, BadLabel, TooManyPoints, NoMemory as OutOfMemory}
+use Rattle.cif_reader.specs.Faults.{Refuses}
+use Rattle.cif_reader.specs.File.{Contents}
+use Rattle.cif_reader.specs.Reading.{Accepts}
+use Rattle.cif_reader.proofs.Answering.{one_refusal, never_both}
 use Rattle.carafe_core.specs.declared.settings.WordRefusal.TheVariants.{Usage, BadSide}
 use Rattle.carafe_core.specs.declared.status.Which.{Which}
 use Rattle.carafe_core.specs.declared.status.Which.TheVariants.{Map, Cif}
 use Rattle.carafe_core.specs.declared.status.Refusal.{Refusal}
-use Rattle.carafe_core.specs.declared.status.Refusal.TheVariants.{Words, NotBuilt}
+use Rattle.carafe_core.specs.declared.status.Refusal.TheVariants.{Words, NotBuilt, Cif as OfCif}
 use Rattle.carafe_core.specs.declared.status.Stream.TheVariants.{Out, Diag}
 use Rattle.carafe_core.specs.declared.status.Status.{Status}
 use Rattle.carafe_core.specs.declared.status.Status.TheVariants.{Done, Refused, OpenFault, ReadFault, WriteFault, NoMemory}
 use Rattle.carafe_core.specs.Answers.{Count, Text, Shown, IsFailure, IsAnswer, IsInterrupted, RefusesWhere, IsInOrder, IsFaultless, ReportsWhere}
 use Rattle.carafe_core.specs.Settings.{Settings, name_in, IsSettings, IsUsage, IsBadSide}
-use Rattle.carafe_core.specs.Causes.{thin_map, Cause, HasOtherMap, HasOtherLayout, IsReportOf, IsReportOn}
+use Rattle.carafe_core.specs.Causes.{thin_map, longest, Cause, IsCifCause, IsLayout, HasOtherMap, HasLongLayout, HasFaultyLayout, HasOtherLayout, IsReportOf, IsReportOn}
 
 -- words in order are no wrong number of words
 not_usage : {words : List (List ℕ)} {settings : Settings} → IsSettings words settings → IsUsage words → ⊥
@@ -40,11 +46,60 @@ same_file list name other x y same there here = one_some x y (file_of list name)
 one_map : {words : List (List ℕ)} {s t : Settings} (list : List File) → IsSettings words s → IsSettings words t → HasOtherMap (Some list) s → IsFile (Some list) t.map thin_map → ⊥
 one_map {s = s} {t = t} list a b other here = other.other (same_file list s.map t.map other.bytes thin_map (same_map a b) other.map_is here)
 
+-- a name has one layout
+one_text : {words : List (List ℕ)} {s t : Settings} (list : List File) (x y : List ℕ) → IsSettings words s → IsSettings words t → IsLayout (Some list) s x → IsLayout (Some list) t y → x ≡ y
+one_text {s = s} {t = t} list x y a b here there = same_file list s.cif t.cif x y (same_cif a b) here.cif_is there.cif_is
+
+-- a layout is not both too long and not
+one_length : {words : List (List ℕ)} {s t : Settings} (list : List File) (x : List ℕ) → IsSettings words s → IsSettings words t → HasLongLayout (Some list) s → IsLayout (Some list) t x → ⊥
+one_length {s = s} {t = t} list x a b long here =
+    over_short (file_of list s.cif) x (ap (λ n. file_of list n) (same_cif a b) ∙ here.cif_is) long.long here.short where
+      over_short : (found : Option (List ℕ)) (x : List ℕ) → found ≡ Some x → IsSomeAnd found (λ bytes. longest Cif < length bytes) → length x ≤ longest Cif → ⊥
+      over_short found x is over short = let more = subst (λ o. IsSomeAnd o (λ bytes. longest Cif < length bytes)) is over in omega (arith, more, short)
+
 -- a layout is plain, or it is not
 one_layout : {words : List (List ℕ)} {s t : Settings} (list : List File) (text : List ℕ) → IsSettings words s → IsSettings words t → HasOtherLayout (Some list) s → IsReportOn (Some list) t text → ⊥
-one_layout {s = s} {t = t} list text a b other report =
-    let thin = report.layout.thin in
-    other.other report.items (subst (λ bytes. Reads bytes report.items) (same_file list t.cif s.cif thin.bytes other.bytes (same_cif b a) thin.cif_is other.cif_is) thin.reads) report.layout.plain
+one_layout list text a b other report =
+    let spelled = report.layout.spelled in
+    other.other report.file (subst (λ bytes. Accepts bytes report.file) (one_text list spelled.bytes other.bytes b a spelled.layout other.layout) spelled.accepts) report.layout.plain
+
+-- the refusal of a layout is for its length or for its first fault
+data IsOneOf (list : List File) (s : Settings) (r : CifRefusal) : Type 0 where
+  for_length : r ≡ CifTooLong → HasLongLayout (Some list) s → IsOneOf list s r
+  for_fault : HasFaultyLayout (Some list) s r → IsOneOf list s r
+
+one_of : (list : List File) (s : Settings) (r : CifRefusal) → IsCifCause r (Some list) s → IsOneOf list s r
+one_of list s CifTooLong c = for_length refl c
+one_of list s OutOfMemory c = absurd c
+one_of list s (Syntax place) c = for_fault c
+one_of list s (NumberTooLarge place) c = for_fault c
+one_of list s (Unsupported place feature) c = for_fault c
+one_of list s (NotManhattan place) c = for_fault c
+one_of list s (NoLayer place) c = for_fault c
+one_of list s (TwiceDefined place) c = for_fault c
+one_of list s (ZeroScale place) c = for_fault c
+one_of list s (OffGrid place) c = for_fault c
+one_of list s (BadLabel place) c = for_fault c
+one_of list s (TooManyPoints place) c = for_fault c
+
+-- where the layout is refused the map is the one that is read
+map_of : (list : List File) (s : Settings) (r : CifRefusal) → IsOneOf list s r → IsFile (Some list) s.map thin_map
+map_of list s r (for_length is long) = long.map_is
+map_of list s r (for_fault faulty) = faulty.layout.map_is
+
+-- a layout that spells a file is not refused
+not_refused : {words : List (List ℕ)} {s t : Settings} (list : List File) (x : List ℕ) (file : Contents) (r : CifRefusal) → IsSettings words s → IsSettings words t → IsLayout (Some list) s x → Accepts x file → IsOneOf list t r → ⊥
+not_refused list x file r a b here accepts (for_length is long) = one_length list x b a long here
+not_refused list x file r a b here accepts (for_fault faulty) =
+    never_both faulty.bytes file r (subst (λ bytes. Accepts bytes file) (one_text list x faulty.bytes a b here faulty.layout) accepts) faulty.refuses
+
+-- a layout is refused for one reason
+one_reason : {words : List (List ℕ)} {s t : Settings} (list : List File) (r q : CifRefusal) → IsSettings words s → IsSettings words t → IsOneOf list s r → IsOneOf list t q → r ≡ q
+one_reason list r q a b (for_length is long) (for_length same other) = is ∙ sym same
+one_reason list r q a b (for_length is long) (for_fault faulty) = absurd (one_length list faulty.bytes a b long faulty.layout)
+one_reason list r q a b (for_fault faulty) (for_length is long) = absurd (one_length list faulty.bytes b a long faulty.layout)
+one_reason list r q a b (for_fault faulty) (for_fault other) =
+    one_refusal other.bytes r q (subst (λ bytes. Refuses bytes r) (one_text list faulty.bytes other.bytes a b faulty.layout other.layout) faulty.refuses) other.refuses
 
 -- the causes of refusals exclude each other
 pub one_cause : (words : List (List ℕ)) (list : List File) (r q : Refusal) → Cause r words (Some list) → Cause q words (Some list) → r ≡ q
@@ -56,23 +111,36 @@ one_cause words list (Words Usage) (NotBuilt which) c d = absurd (not_usage d.as
 one_cause words list (Words BadSide) (NotBuilt which) c d = absurd (not_bad_side d.asked c)
 one_cause words list (NotBuilt which) (Words Usage) c d = absurd (not_usage c.asked d)
 one_cause words list (NotBuilt which) (Words BadSide) c d = absurd (not_bad_side c.asked d)
+one_cause words list (Words Usage) (OfCif q) c d = absurd (not_usage d.asked c)
+one_cause words list (Words BadSide) (OfCif q) c d = absurd (not_bad_side d.asked c)
+one_cause words list (OfCif r) (Words Usage) c d = absurd (not_usage c.asked d)
+one_cause words list (OfCif r) (Words BadSide) c d = absurd (not_bad_side c.asked d)
+one_cause words list (OfCif r) (OfCif q) c d = ap (λ x. OfCif x) (one_reason list r q c.asked d.asked (one_of list c.settings r c.holds) (one_of list d.settings q d.holds))
+one_cause words list (OfCif r) (NotBuilt Map) c d = absurd (one_map list d.asked c.asked d.holds (map_of list c.settings r (one_of list c.settings r c.holds)))
+one_cause words list (NotBuilt Map) (OfCif q) c d = absurd (one_map list c.asked d.asked c.holds (map_of list d.settings q (one_of list d.settings q d.holds)))
+one_cause words list (OfCif r) (NotBuilt Cif) c d = absurd (not_refused list d.holds.bytes d.holds.file r d.asked c.asked d.holds.layout d.holds.accepts (one_of list c.settings r c.holds))
+one_cause words list (NotBuilt Cif) (OfCif q) c d = absurd (not_refused list c.holds.bytes c.holds.file q c.asked d.asked c.holds.layout c.holds.accepts (one_of list d.settings q d.holds))
 one_cause words list (NotBuilt Map) (NotBuilt Map) c d = refl
-one_cause words list (NotBuilt Map) (NotBuilt Cif) c d = absurd (one_map list c.asked d.asked c.holds d.holds.map_is)
-one_cause words list (NotBuilt Cif) (NotBuilt Map) c d = absurd (one_map list d.asked c.asked d.holds c.holds.map_is)
+one_cause words list (NotBuilt Map) (NotBuilt Cif) c d = absurd (one_map list c.asked d.asked c.holds d.holds.layout.map_is)
+one_cause words list (NotBuilt Cif) (NotBuilt Map) c d = absurd (one_map list d.asked c.asked d.holds c.holds.layout.map_is)
 one_cause words list (NotBuilt Cif) (NotBuilt Cif) c d = refl
 
 -- where there is a report there is no cause of a refusal
 pub no_cause : (words : List (List ℕ)) (list : List File) (text : List ℕ) (r : Refusal) → IsReportOf words (Some list) text → Cause r words (Some list) → ⊥
 no_cause words list text (Words Usage) report c = not_usage report.asked c
 no_cause words list text (Words BadSide) report c = not_bad_side report.asked c
-no_cause words list text (NotBuilt Map) report c = one_map list c.asked report.asked c.holds report.holds.layout.thin.map_is
+no_cause words list text (NotBuilt Map) report c = one_map list c.asked report.asked c.holds report.holds.layout.spelled.layout.map_is
 no_cause words list text (NotBuilt Cif) report c = one_layout list text c.asked report.asked c.holds report.holds
+no_cause words list text (OfCif r) report c =
+    let spelled = report.holds.layout.spelled in
+    not_refused list spelled.bytes report.holds.file r report.asked c.asked spelled.layout spelled.accepts (one_of list c.settings r c.holds)
 
 -- ---- what the answer of the top call says where the files are told
 
 -- an answer of refusal has its cause
 failure_cause : (words : List (List ℕ)) (shelf : Shown) (q : Refusal) → IsFailure words shelf (Refused q) → Cause q words shelf.files
 failure_cause words shelf (Words refusal) failure = failure
+failure_cause words shelf (OfCif refusal) failure = record { settings = failure.settings; asked = failure.asked; holds = failure.holds }
 failure_cause words shelf (NotBuilt which) failure = record { settings = failure.settings; asked = failure.asked; holds = failure.holds }
 
 told_refusal : (words : List (List ℕ)) (list : List File) (starts reads : Count) (out diag : Text) (m n : Count) (status : Status) (r : Refusal)

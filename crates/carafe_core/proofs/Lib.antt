@@ -7,3 +7,5 @@ pub mod CauseFacts
 pub mod DrawingFacts
 pub mod RangeFacts
 pub mod Exactness
+pub mod SameFiles
+pub mod NeverTooLong

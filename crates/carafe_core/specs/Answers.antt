@@ -1,30 +1,60 @@
 -- What each status says of the call that gives it.
-use Rattle.std.specs.Prelude.{◌≡◌, ℕ, ◌⊎◌, List, [], Option, Some, codes}
+use Rattle.std.specs.Prelude.{◌≡◌, ℕ, ◌⊎◌, List, [], ◌∷◌, Option, Some, codes}
+use Rattle.std.specs.List.{concat}
+use Rattle.std.specs.Fmt.{decimal}
 use Rattle.probe_io.specs.Files.{File, Lacks}
 use Rattle.probe_io.specs.Causes.{Rose}
 use Rattle.probe_io.specs.Written.{Appends, AppendsFront}
+use Rattle.cif_reader.specs.declared.refusal.CifRefusal.{CifRefusal}
+use Rattle.cif_reader.specs.declared.refusal.CifRefusal.TheVariants.{CifTooLong, Syntax, NumberTooLarge, Unsupported, NotManhattan, NoLayer, TwiceDefined, ZeroScale, OffGrid, BadLabel, TooManyPoints, NoMemory as OutOfMemory}
+use Rattle.cif_reader.specs.declared.refusal.Feature.TheVariants.{Round, DefDelete}
 use Rattle.carafe_core.specs.declared.settings.WordRefusal.TheVariants.{Usage, BadSide}
 use Rattle.carafe_core.specs.declared.status.Which.{Which}
 use Rattle.carafe_core.specs.declared.status.Which.TheVariants.{Map, Cif}
 use Rattle.carafe_core.specs.declared.status.Stream.TheVariants.{Out, Diag}
 use Rattle.carafe_core.specs.declared.status.Refusal.{Refusal}
-use Rattle.carafe_core.specs.declared.status.Refusal.TheVariants.{Words, NotBuilt}
+use Rattle.carafe_core.specs.declared.status.Refusal.TheVariants.{Words, NotBuilt, Cif as OfCif}
 use Rattle.carafe_core.specs.declared.status.Status.{Status}
 use Rattle.carafe_core.specs.declared.status.Status.TheVariants.{Done, Refused, OpenFault, ReadFault, WriteFault, NoMemory}
 use Rattle.carafe_core.specs.declared.layout.Layout.{Layout}
 use Rattle.carafe_core.specs.Report.{IsReport}
 use Rattle.carafe_core.specs.Settings.{Settings, name_in, ForSettings, IsWordCause}
-use Rattle.carafe_core.specs.Causes.{IsReportOf, Cause, IsNotBuilt, IsReached}
+use Rattle.carafe_core.specs.Causes.{IsReportOf, Cause, IsNotBuilt, IsCifCause, IsReached}
 
 -- the exit status of the program
 abbrev pub exit_of : Status → ℕ
 exit_of Done = 0
 exit_of (Refused (Words refusal)) = 3
 exit_of (Refused (NotBuilt which)) = 2
+exit_of (Refused (OfCif refusal)) = 2
 exit_of (OpenFault which) = 4
 exit_of (ReadFault which) = 4
 exit_of (WriteFault stream) = 5
 exit_of NoMemory = 6
+
+-- a refusal's name and a place in the text
+abbrev pub place_line : List ℕ → ℕ → List ℕ
+place_line name place = concat (codes "carafe: " ∷ name ∷ codes " " ∷ decimal place ∷ codes "\n" ∷ [])
+
+-- a feature that is not read, at a place
+abbrev pub unsupported_line : ℕ → List ℕ → List ℕ
+unsupported_line place name = concat (codes "carafe: Unsupported " ∷ decimal place ∷ codes " " ∷ name ∷ codes "\n" ∷ [])
+
+-- the line of a refused layout
+abbrev pub cif_line : CifRefusal → List ℕ
+cif_line CifTooLong = codes "carafe: CifTooLong\n"
+cif_line (Syntax place) = place_line (codes "Syntax") place
+cif_line (NumberTooLarge place) = place_line (codes "NumberTooLarge") place
+cif_line (Unsupported place Round) = unsupported_line place (codes "Round")
+cif_line (Unsupported place DefDelete) = unsupported_line place (codes "DefDelete")
+cif_line (NotManhattan place) = place_line (codes "NotManhattan") place
+cif_line (NoLayer place) = place_line (codes "NoLayer") place
+cif_line (TwiceDefined place) = place_line (codes "TwiceDefined") place
+cif_line (ZeroScale place) = place_line (codes "ZeroScale") place
+cif_line (OffGrid place) = place_line (codes "OffGrid") place
+cif_line (BadLabel place) = place_line (codes "BadLabel") place
+cif_line (TooManyPoints place) = place_line (codes "TooManyPoints") place
+cif_line OutOfMemory = codes "carafe: NoMemory\n"
 
 -- the line on the diagnostics stream
 abbrev pub line_of : Status → List ℕ
@@ -33,6 +63,7 @@ line_of (Refused (Words Usage)) = codes "carafe: Usage\n"
 line_of (Refused (Words BadSide)) = codes "carafe: BadSide\n"
 line_of (Refused (NotBuilt Map)) = codes "carafe: NotBuilt map\n"
 line_of (Refused (NotBuilt Cif)) = codes "carafe: NotBuilt cif\n"
+line_of (Refused (OfCif refusal)) = cif_line refusal
 line_of (OpenFault Map) = codes "carafe: OpenFault map\n"
 line_of (OpenFault Cif) = codes "carafe: OpenFault cif\n"
 line_of (ReadFault Map) = codes "carafe: ReadFault map\n"
@@ -40,6 +71,21 @@ line_of (ReadFault Cif) = codes "carafe: ReadFault cif\n"
 line_of (WriteFault Out) = codes "carafe: WriteFault out\n"
 line_of (WriteFault Diag) = []
 line_of NoMemory = codes "carafe: NoMemory\n"
+
+-- the status of a layout that the reader refuses
+abbrev pub refused_as : CifRefusal → Status
+refused_as CifTooLong = Refused (OfCif CifTooLong)
+refused_as OutOfMemory = NoMemory
+refused_as (Syntax place) = Refused (OfCif (Syntax place))
+refused_as (NumberTooLarge place) = Refused (OfCif (NumberTooLarge place))
+refused_as (Unsupported place feature) = Refused (OfCif (Unsupported place feature))
+refused_as (NotManhattan place) = Refused (OfCif (NotManhattan place))
+refused_as (NoLayer place) = Refused (OfCif (NoLayer place))
+refused_as (TwiceDefined place) = Refused (OfCif (TwiceDefined place))
+refused_as (ZeroScale place) = Refused (OfCif (ZeroScale place))
+refused_as (OffGrid place) = Refused (OfCif (OffGrid place))
+refused_as (BadLabel place) = Refused (OfCif (BadLabel place))
+refused_as (TooManyPoints place) = Refused (OfCif (TooManyPoints place))
 
 -- a count of faults, before the call and after it
 pub record Count : Type 0 where
@@ -99,6 +145,7 @@ abbrev pub IsFileFailure : Shown → Status → Settings → Type 0
 IsFileFailure shelf Done settings = ⊥
 IsFileFailure shelf (Refused (Words refusal)) settings = ⊥
 IsFileFailure shelf (Refused (NotBuilt which)) settings = IsNotBuilt which shelf.files settings
+IsFileFailure shelf (Refused (OfCif refusal)) settings = IsCifCause refusal shelf.files settings
 IsFileFailure shelf (OpenFault which) settings = IsOpenFault shelf which settings
 IsFileFailure shelf (ReadFault which) settings = IsReadFault shelf which settings
 IsFileFailure shelf (WriteFault stream) settings = ⊥
@@ -109,6 +156,7 @@ abbrev pub IsFailure : List (List ℕ) → Shown → Status → Type 0
 IsFailure words shelf Done = ⊥
 IsFailure words shelf (Refused (Words refusal)) = IsWordCause refusal words
 IsFailure words shelf (Refused (NotBuilt which)) = ForSettings words (λ settings. IsFileFailure shelf (Refused (NotBuilt which)) settings)
+IsFailure words shelf (Refused (OfCif refusal)) = ForSettings words (λ settings. IsFileFailure shelf (Refused (OfCif refusal)) settings)
 IsFailure words shelf (OpenFault which) = ForSettings words (λ settings. IsFileFailure shelf (OpenFault which) settings)
 IsFailure words shelf (ReadFault which) = ForSettings words (λ settings. IsFileFailure shelf (ReadFault which) settings)
 IsFailure words shelf (WriteFault stream) = ⊥

@@ -1,17 +1,19 @@
 -- What a report is made of, and why a call is refused. What is said here of a file is said where the shelf tells its
 -- files.
-use Rattle.std.specs.Prelude.{◌≡◌, ℕ, ◌^◌, List, All, Option, codes}
-use Rattle.probe_io.specs.Files.{File, IsFile}
-use Rattle.cif_reader.specs.declared.file.Item.{Item}
-use Rattle.cif_reader.specs.Reading.{Reads}
+use Rattle.std.specs.Prelude.{◌≡◌, ℕ, ◌≤◌, List, Bool, true, Option, codes, length}
+use Rattle.probe_io.specs.Files.{File, IsFile, IsFileOver}
+use Rattle.cif_reader.specs.declared.refusal.CifRefusal.{CifRefusal}
+use Rattle.cif_reader.specs.declared.refusal.CifRefusal.TheVariants.{CifTooLong, Syntax, NumberTooLarge, Unsupported, NotManhattan, NoLayer, TwiceDefined, ZeroScale, OffGrid, BadLabel, TooManyPoints, NoMemory}
+use Rattle.cif_reader.specs.Faults.{Refuses}
+use Rattle.cif_reader.specs.File.{Contents}
+use Rattle.cif_reader.specs.Reading.{Accepts}
 use Rattle.carafe_core.specs.declared.status.Which.{Which}
 use Rattle.carafe_core.specs.declared.status.Which.TheVariants.{Map, Cif}
 use Rattle.carafe_core.specs.declared.status.Refusal.{Refusal}
-use Rattle.carafe_core.specs.declared.status.Refusal.TheVariants.{Words, NotBuilt}
+use Rattle.carafe_core.specs.declared.status.Refusal.TheVariants.{Words, NotBuilt, Cif as OfCif}
 use Rattle.carafe_core.specs.Settings.{Settings, ForSettings, IsWordCause}
-use Rattle.plane_geom.specs.Bounds.{IsRectWithin}
 use Rattle.carafe_core.specs.declared.layout.Layout.{Layout}
-use Rattle.carafe_core.specs.Drawing.{boxes_of, marks_of}
+use Rattle.carafe_core.specs.Drawing.{boxes_of, marks_of, are_simple}
 use Rattle.carafe_core.specs.Nets.{IsPlain}
 use Rattle.carafe_core.specs.Report.{IsReport}
 
@@ -19,37 +21,56 @@ use Rattle.carafe_core.specs.Report.{IsReport}
 abbrev pub thin_map : List ℕ
 thin_map = codes "wire metal CMF\nlabel CMF metal\nhigh Vdd\nlow GND\n"
 
--- the map is the one that is read, and the layout is of the thin form and has these items
-pub record HasThinLayout (files : Option (List File)) (settings : Settings) (items : List Item) : Type 0 where
+-- the most bytes of a file
+unfoldable pub longest : Which → ℕ
+longest Map = 65536
+longest Cif = 16777216
+
+-- the refusal of a file that has more
+abbrev pub too_long : Which → Refusal
+too_long Map = NotBuilt Map
+too_long Cif = OfCif CifTooLong
+
+-- The layout is one text that is not too long, and the map is the one that is read.
+pub record IsLayout (files : Option (List File)) (settings : Settings) (bytes : List ℕ) : Type 0 where
   pub map_is : IsFile files settings.map thin_map
-  pub bytes : List ℕ
   pub cif_is : IsFile files settings.cif bytes
-  pub reads : Reads bytes items
+  pub short : length bytes ≤ longest Cif
 
--- and the layout is plain
-pub record HasLayout (files : Option (List File)) (settings : Settings) (items : List Item) : Type 0 where
-  pub thin : HasThinLayout files settings items
-  pub plain : IsPlain (boxes_of items) (marks_of items)
+-- and it spells this file
+pub record HasFile (files : Option (List File)) (settings : Settings) (file : Contents) : Type 0 where
+  pub bytes : List ℕ
+  pub layout : IsLayout files settings bytes
+  pub accepts : Accepts bytes file
 
--- the boxes and labels are those of the items, and plain
-pub record IsDrawnFrom (items : List Item) (layout : Layout) : Type 0 where
-  pub boxes_are : layout.boxes.items ≡ boxes_of items
-  pub marks_are : layout.marks.items ≡ marks_of items
-  pub plain : IsPlain (boxes_of items) (marks_of items)
-  pub within : All (IsRectWithin (2 ^ 24)) layout.boxes.items
+-- Nothing is called, only boxes are drawn on metal, and the boxes and labels are plain.
+pub record IsPlainFile (file : Contents) : Type 0 where
+  pub simple : are_simple file.top ≡ true
+  pub plain : IsPlain (boxes_of file.top) (marks_of file.top)
+
+-- the layout spells this file, which is plain
+pub record HasPlainFile (files : Option (List File)) (settings : Settings) (file : Contents) : Type 0 where
+  pub spelled : HasFile files settings file
+  pub plain : IsPlainFile file
+
+-- the boxes and labels are those of the file
+pub record IsDrawnFrom (file : Contents) (layout : Layout) : Type 0 where
+  pub boxes_are : layout.boxes.items ≡ boxes_of file.top
+  pub marks_are : layout.marks.items ≡ marks_of file.top
+  pub plain : IsPlainFile file
 
 -- the layout is that of the files that the settings name
 pub record HasDrawn (files : Option (List File)) (settings : Settings) (layout : Layout) : Type 0 where
-  pub items : List Item
-  pub thin : HasThinLayout files settings items
-  pub drawn : IsDrawnFrom items layout
+  pub file : Contents
+  pub spelled : HasFile files settings file
+  pub drawn : IsDrawnFrom file layout
   pub side_is : layout.side ≡ settings.side
 
 -- the text is the report on the files that the settings name
 pub record IsReportOn (files : Option (List File)) (settings : Settings) (text : List ℕ) : Type 0 where
-  pub items : List Item
-  pub layout : HasLayout files settings items
-  pub report : IsReport settings.side (boxes_of items) (marks_of items) text
+  pub file : Contents
+  pub layout : HasPlainFile files settings file
+  pub report : IsReport settings.side (boxes_of file.top) (marks_of file.top) text
 
 -- the text is the report that the words ask for
 abbrev pub IsReportOf : List (List ℕ) → Option (List File) → List ℕ → Type 0
@@ -61,22 +82,50 @@ pub record HasOtherMap (files : Option (List File)) (settings : Settings) : Type
   pub map_is : IsFile files settings.map bytes
   pub other : bytes ≡ thin_map → ⊥
 
--- the map is the one that is read, and the layout is not of the thin form, or is not plain
-pub record HasOtherLayout (files : Option (List File)) (settings : Settings) : Type 0 where
+-- the map is the one that is read, and the layout has too many bytes
+pub record HasLongLayout (files : Option (List File)) (settings : Settings) : Type 0 where
   pub map_is : IsFile files settings.map thin_map
+  pub long : IsFileOver files settings.cif (longest Cif)
+
+-- the layout is refused for this fault, the first of its text
+pub record HasFaultyLayout (files : Option (List File)) (settings : Settings) (fault : CifRefusal) : Type 0 where
   pub bytes : List ℕ
-  pub cif_is : IsFile files settings.cif bytes
-  pub other : (items : List Item) → Reads bytes items → IsPlain (boxes_of items) (marks_of items) → ⊥
+  pub layout : IsLayout files settings bytes
+  pub refuses : Refuses bytes fault
+
+-- the layout spells files, none of which is plain
+pub record HasOtherLayout (files : Option (List File)) (settings : Settings) : Type 0 where
+  pub bytes : List ℕ
+  pub layout : IsLayout files settings bytes
+  pub file : Contents
+  pub accepts : Accepts bytes file
+  pub other : (file : Contents) → Accepts bytes file → IsPlainFile file → ⊥
 
 -- a file is of a form that is not read yet, and those that are read before it are not
 abbrev pub IsNotBuilt : Which → Option (List File) → Settings → Type 0
 IsNotBuilt Map files settings = HasOtherMap files settings
 IsNotBuilt Cif files settings = HasOtherLayout files settings
 
+-- what each refusal of the layout says of it
+abbrev pub IsCifCause : CifRefusal → Option (List File) → Settings → Type 0
+IsCifCause CifTooLong files settings = HasLongLayout files settings
+IsCifCause NoMemory files settings = ⊥
+IsCifCause (Syntax place) files settings = HasFaultyLayout files settings (Syntax place)
+IsCifCause (NumberTooLarge place) files settings = HasFaultyLayout files settings (NumberTooLarge place)
+IsCifCause (Unsupported place feature) files settings = HasFaultyLayout files settings (Unsupported place feature)
+IsCifCause (NotManhattan place) files settings = HasFaultyLayout files settings (NotManhattan place)
+IsCifCause (NoLayer place) files settings = HasFaultyLayout files settings (NoLayer place)
+IsCifCause (TwiceDefined place) files settings = HasFaultyLayout files settings (TwiceDefined place)
+IsCifCause (ZeroScale place) files settings = HasFaultyLayout files settings (ZeroScale place)
+IsCifCause (OffGrid place) files settings = HasFaultyLayout files settings (OffGrid place)
+IsCifCause (BadLabel place) files settings = HasFaultyLayout files settings (BadLabel place)
+IsCifCause (TooManyPoints place) files settings = HasFaultyLayout files settings (TooManyPoints place)
+
 -- the cause of each refusal, the causes of all earlier ones being absent
 abbrev pub Cause : Refusal → List (List ℕ) → Option (List File) → Type 0
 Cause (Words refusal) words files = IsWordCause refusal words
 Cause (NotBuilt which) words files = ForSettings words (λ settings. IsNotBuilt which files settings)
+Cause (OfCif refusal) words files = ForSettings words (λ settings. IsCifCause refusal files settings)
 
 -- no refusal stands before this file is read
 abbrev pub IsReached : Which → Option (List File) → Settings → Type 0

@@ -1,5 +1,5 @@
 -- The nets of a plain layout, in which each box of metal is a net, with their numbers and names.
-use Rattle.std.specs.Prelude.{◌≡◌, ◌≢◌, ℕ, suc, ◌≤◌, ℤ, pos, ◌+ℤ◌, ◌-ℤ◌, ◌<ℤ◌, Bool, true, ◌&&◌, ◌||◌, if◌then◌else◌, Option, Some, None, unwrap_or, List, [], ◌∷◌, ◌++◌, length, map, filter, fold, codes, All, AllPairs, IsPermutation, IsSorted}
+use Rattle.std.specs.Prelude.{◌≡◌, ◌≢◌, ℕ, suc, ◌≤◌, ◌^◌, ℤ, pos, ◌+ℤ◌, ◌-ℤ◌, ◌<ℤ◌, Bool, true, ◌&&◌, ◌||◌, if◌then◌else◌, Option, Some, None, unwrap_or, List, [], ◌∷◌, ◌++◌, length, map, filter, fold, codes, All, AllPairs, IsPermutation, IsSorted}
 use Rattle.std.specs.List.{list_any}
 use Rattle.std.specs.declared.cmp.Ordering.{Ordering}
 use Rattle.std.specs.Ordering.{nat_cmp, int_cmp, ordering_then, is_lt}
@@ -7,6 +7,7 @@ use Rattle.std.specs.Cmp.Lexicographic.{slice_cmp}
 use Rattle.std.specs.Fmt.{decimal}
 use Rattle.plane_geom.specs.declared.shapes.Point.{Point}
 use Rattle.plane_geom.specs.declared.shapes.Rect.{Rect}
+use Rattle.plane_geom.specs.Bounds.{IsRectWithin}
 use Rattle.plane_geom.specs.Cells.{is_in_rect}
 use Rattle.carafe_core.specs.declared.nets.Mark.{Mark}
 
@@ -27,9 +28,11 @@ pub record AreApart (a b : Rect) : Type 0 where
 abbrev pub is_round : Rect → Point → Bool
 is_round r p = is_in_rect r p.x p.y && is_in_rect r (p.x -ℤ pos 1) p.y && is_in_rect r p.x (p.y -ℤ pos 1) && is_in_rect r (p.x -ℤ pos 1) (p.y -ℤ pos 1)
 
--- The layout is plain: at most 64 boxes, all apart, and at most 64 labels with distinct names, each inside a box.
+-- The boxes and labels are plain: at most 64 boxes, all apart and within 2^24 of the origin, and at most 64 labels with
+-- distinct names, each inside a box.
 pub record IsPlain (boxes : List Rect) (marks : List Mark) : Type 0 where
   pub few_boxes : length boxes ≤ 64
+  pub near : All (IsRectWithin (2 ^ 24)) boxes
   pub apart : AllPairs AreApart boxes
   pub few_marks : length marks ≤ 64
   pub inside : All (λ m. list_any (λ r. is_round r m.at) boxes ≡ true) marks

@@ -1,7 +1,6 @@
 //! The top call.
 
-ghost use Rattle.std.specs.Prelude.{◌≡◌, ℕ, ◌^◌, ◌≤◌, All};
-ghost use Rattle.plane_geom.specs.Bounds.{IsRectWithin};
+ghost use Rattle.std.specs.Prelude.{◌≡◌, ℕ, ◌≤◌};
 ghost use Rattle.carafe_core.specs.Nets.{IsPlain};
 ghost use Rattle.carafe_core.specs.Answers.{count, text, shown, IsWriting, IsOutcome, IsAnswer, RefusesWhere, ReportsWhere};
 
@@ -10,7 +9,7 @@ use crate::nets::{net_names, numbered};
 use crate::ranking::ranked_bridges;
 use crate::report::put_report;
 use crate::status::{Status, Stream};
-use probe_io::{Name, Shelf, Sink, put_all};
+use probe_io::{Name, Shelf, Sink};
 use std::alloc::Global;
 
 /// Writes the report on a plain layout.
@@ -18,7 +17,6 @@ fn write_report<K: Sink>(alloc: Global, layout: Layout, out: &mut K) -> Status
     requires some { 1 ≤ layout.side }
     requires small { layout.side ≤ 32768 }
     requires plain { IsPlain layout.boxes.items layout.marks.items }
-    requires within { All (IsRectWithin (2 ^ 24)) layout.boxes.items }
     ensures { IsWriting layout (text (K.written out.old) (K.written out.new)) (count (K.faults out.old) (K.faults out.new)) result }
 {
     let Layout { side, boxes, marks } = layout;
@@ -84,7 +82,7 @@ fn answered<H: Shelf, K: Sink, E: Sink>(
     if status == Status::Done {
         return status;
     }
-    match (put_all(diag, status.line()), status) {
+    match (status.put_line(diag), status) {
         (Err(_), Status::Refused(_)) => Status::WriteFault(Stream::Diag),
         _ => status,
     }

@@ -1,8 +1,9 @@
 //! The nets of a plain layout.
 
-ghost use Rattle.std.specs.Prelude.{◌≡◌, ◌≢◌, ℕ, ◌↔◌, pos, ◌-ℤ◌, ◌&&◌, IsTrue, true, All, AllPairs, IfOk};
+ghost use Rattle.std.specs.Prelude.{◌≡◌, ◌≢◌, ℕ, ◌^◌, ◌↔◌, pos, ◌-ℤ◌, ◌&&◌, IsTrue, true, All, AllPairs, IfOk};
 ghost use Rattle.std.specs.List.{list_any};
 ghost use Rattle.std.specs.Option.{option_copied};
+ghost use Rattle.plane_geom.specs.Bounds.{IsWithin, IsRectWithin};
 ghost use Rattle.plane_geom.specs.Cells.{is_between};
 ghost use Rattle.carafe_core.specs.Nets.{HasCells, AreApart, is_round, IsPlain, AreNumbered, least, lesser_than, bound_names, name_of, names_from};
 ghost use Rattle.carafe_core.specs.Spans.{LieAs, tells_apart};
@@ -147,7 +148,35 @@ fn are_all_inside(boxes: &[Rect], marks: &[Mark]) -> bool
 /// The most boxes and the most labels of a plain layout.
 const MANY: usize = 64;
 
-/// Whether the layout is plain.
+/// Whether no coordinate of the boxes is over 16,777,216 from 0.
+fn are_all_near(boxes: &[Rect]) -> bool
+    ensures { IsTrue result ↔ All (IsRectWithin (2 ^ 24)) boxes.now }
+{
+    boxes.iter().all(is_near)
+}
+
+fn is_near(r: &Rect) -> bool
+    ensures { IsTrue result ↔ IsRectWithin (2 ^ 24) r.now }
+{
+    is_low_corner_near(r) && is_high_corner_near(r)
+}
+
+fn is_low_corner_near(r: &Rect) -> bool
+    ensures { IsTrue result ↔ (IsWithin (2 ^ 24) r.now.x0 × IsWithin (2 ^ 24) r.now.y0) }
+{
+    r.x0.unsigned_abs() <= RANGE && r.y0.unsigned_abs() <= RANGE
+}
+
+fn is_high_corner_near(r: &Rect) -> bool
+    ensures { IsTrue result ↔ (IsWithin (2 ^ 24) r.now.x1 × IsWithin (2 ^ 24) r.now.y1) }
+{
+    r.x1.unsigned_abs() <= RANGE && r.y1.unsigned_abs() <= RANGE
+}
+
+/// The greatest distance of a coordinate of a plain layout from 0, in mask units.
+const RANGE: u64 = 16_777_216;
+
+/// Whether the boxes and labels are plain.
 pub fn is_plain(boxes: &[Rect], marks: &[Mark]) -> bool
     requires { All HasCells boxes.now }
     ensures { IsTrue result ↔ IsPlain boxes.now marks.now }
@@ -155,7 +184,10 @@ pub fn is_plain(boxes: &[Rect], marks: &[Mark]) -> bool
     if boxes.len() > MANY || marks.len() > MANY {
         return false;
     }
-    are_all_apart(boxes) && are_all_inside(boxes, marks) && are_all_distinct(marks)
+    are_all_near(boxes)
+        && are_all_apart(boxes)
+        && are_all_inside(boxes, marks)
+        && are_all_distinct(marks)
 }
 
 /// The boxes as nets, in the order of their numbers.

@@ -1,9 +1,13 @@
 //! How a call ends.
 
-ghost use Rattle.std.specs.Prelude.{◌≡◌};
-ghost use Rattle.carafe_core.specs.Answers.{exit_of, line_of};
+ghost use Rattle.std.specs.Prelude.{◌≡◌, OnOk, OnErr};
+ghost use Rattle.probe_io.specs.Causes.{HasCause};
+ghost use Rattle.probe_io.specs.Written.{Appends, AppendsFront};
+ghost use Rattle.carafe_core.specs.Answers.{exit_of, line_of, cif_line, place_line, unsupported_line};
 
 use crate::settings::WordRefusal;
+use cif_reader::{CifRefusal, Feature};
+use probe_io::{Failed, Piece, Sink, put_all, put_pieces};
 
 /// A file that the words name.
 #[derive(Debug, Clone, Copy, PartialEq, Eq)]
@@ -28,6 +32,8 @@ pub enum Stream {
 pub enum Refusal {
     /// The words are no command.
     Words(WordRefusal),
+    /// The layout's text is refused.
+    Cif(CifRefusal),
     /// The file is of a form that is not read yet.
     NotBuilt(Which),
 }
@@ -57,29 +63,107 @@ impl Status {
         match self {
             Status::Done => 0,
             Status::Refused(Refusal::Words(_)) => 3,
-            Status::Refused(Refusal::NotBuilt(_)) => 2,
+            Status::Refused(Refusal::Cif(_) | Refusal::NotBuilt(_)) => 2,
             Status::OpenFault(_) | Status::ReadFault(_) => 4,
             Status::WriteFault(_) => 5,
             Status::NoMemory => 6,
         }
     }
 
-    /// The line on the diagnostics stream, with its end: nothing after `Done`, and after a failure of that stream.
-    pub(crate) fn line(&self) -> &'static [u8]
-        ensures { result.now ≡ line_of self.now }
+    /// Writes the line on the diagnostics stream, with its end: nothing after `Done`, and after a failure of that stream.
+    pub(crate) fn put_line<K: Sink>(&self, diag: &mut K) -> Result<(), Failed>
+        ensures ok { OnOk result (Appends (K.written diag.old) (K.written diag.new) (line_of self.now)) }
+        ensures front { OnErr result (AppendsFront (K.written diag.old) (K.written diag.new) (line_of self.now)) }
+        ensures cause { HasCause (K.faults diag.old) (K.faults diag.new) result }
     {
         match self {
-            Status::Done | Status::WriteFault(Stream::Diag) => b"",
-            Status::Refused(Refusal::Words(WordRefusal::Usage)) => b"carafe: Usage\n",
-            Status::Refused(Refusal::Words(WordRefusal::BadSide)) => b"carafe: BadSide\n",
-            Status::Refused(Refusal::NotBuilt(Which::Map)) => b"carafe: NotBuilt map\n",
-            Status::Refused(Refusal::NotBuilt(Which::Cif)) => b"carafe: NotBuilt cif\n",
-            Status::OpenFault(Which::Map) => b"carafe: OpenFault map\n",
-            Status::OpenFault(Which::Cif) => b"carafe: OpenFault cif\n",
-            Status::ReadFault(Which::Map) => b"carafe: ReadFault map\n",
-            Status::ReadFault(Which::Cif) => b"carafe: ReadFault cif\n",
-            Status::WriteFault(Stream::Out) => b"carafe: WriteFault out\n",
-            Status::NoMemory => b"carafe: NoMemory\n",
+            Status::Done | Status::WriteFault(Stream::Diag) => Ok(()),
+            Status::Refused(Refusal::Words(WordRefusal::Usage)) => put_all(
+                diag,
+                b"carafe: Usage\n",
+            ),
+            Status::Refused(Refusal::Words(WordRefusal::BadSide)) => put_all(
+                diag,
+                b"carafe: BadSide\n",
+            ),
+            Status::Refused(Refusal::Cif(refusal)) => put_cif_line(diag, refusal),
+            Status::Refused(Refusal::NotBuilt(Which::Map)) => put_all(
+                diag,
+                b"carafe: NotBuilt map\n",
+            ),
+            Status::Refused(Refusal::NotBuilt(Which::Cif)) => put_all(
+                diag,
+                b"carafe: NotBuilt cif\n",
+            ),
+            Status::OpenFault(Which::Map) => put_all(diag, b"carafe: OpenFault map\n"),
+            Status::OpenFault(Which::Cif) => put_all(diag, b"carafe: OpenFault cif\n"),
+            Status::ReadFault(Which::Map) => put_all(diag, b"carafe: ReadFault map\n"),
+            Status::ReadFault(Which::Cif) => put_all(diag, b"carafe: ReadFault cif\n"),
+            Status::WriteFault(Stream::Out) => put_all(diag, b"carafe: WriteFault out\n"),
+            Status::NoMemory => put_all(diag, b"carafe: NoMemory\n"),
         }
     }
+}
+
+/// Writes the line of a refused layout.
+fn put_cif_line<K: Sink>(diag: &mut K, refusal: &CifRefusal) -> Result<(), Failed>
+    ensures ok { OnOk result (Appends (K.written diag.old) (K.written diag.new) (cif_line refusal.now)) }
+    ensures front { OnErr result (AppendsFront (K.written diag.old) (K.written diag.new) (cif_line refusal.now)) }
+    ensures cause { HasCause (K.faults diag.old) (K.faults diag.new) result }
+{
+    match refusal {
+        CifRefusal::CifTooLong => put_all(diag, b"carafe: CifTooLong\n"),
+        CifRefusal::Syntax(place) => put_place(diag, b"Syntax", *place),
+        CifRefusal::NumberTooLarge(place) => put_place(diag, b"NumberTooLarge", *place),
+        CifRefusal::Unsupported(place, Feature::Round) => put_unsupported(diag, *place, b"Round"),
+        CifRefusal::Unsupported(place, Feature::DefDelete) => put_unsupported(
+            diag,
+            *place,
+            b"DefDelete",
+        ),
+        CifRefusal::NotManhattan(place) => put_place(diag, b"NotManhattan", *place),
+        CifRefusal::NoLayer(place) => put_place(diag, b"NoLayer", *place),
+        CifRefusal::TwiceDefined(place) => put_place(diag, b"TwiceDefined", *place),
+        CifRefusal::ZeroScale(place) => put_place(diag, b"ZeroScale", *place),
+        CifRefusal::OffGrid(place) => put_place(diag, b"OffGrid", *place),
+        CifRefusal::BadLabel(place) => put_place(diag, b"BadLabel", *place),
+        CifRefusal::TooManyPoints(place) => put_place(diag, b"TooManyPoints", *place),
+        CifRefusal::NoMemory => put_all(diag, b"carafe: NoMemory\n"),
+    }
+}
+
+/// Writes the line of a refusal of this name at a place of the text.
+fn put_place<K: Sink>(diag: &mut K, name: &[u8], place: u64) -> Result<(), Failed>
+    ensures ok { OnOk result (Appends (K.written diag.old) (K.written diag.new) (place_line name.now place)) }
+    ensures front { OnErr result (AppendsFront (K.written diag.old) (K.written diag.new) (place_line name.now place)) }
+    ensures cause { HasCause (K.faults diag.old) (K.faults diag.new) result }
+{
+    put_pieces(
+        diag,
+        &[
+            Piece::Text(b"carafe: "),
+            Piece::Text(name),
+            Piece::Text(b" "),
+            Piece::Number(place),
+            Piece::Text(b"\n"),
+        ],
+    )
+}
+
+/// Writes the line of a feature of this name that is not read, at a place of the text.
+fn put_unsupported<K: Sink>(diag: &mut K, place: u64, name: &[u8]) -> Result<(), Failed>
+    ensures ok { OnOk result (Appends (K.written diag.old) (K.written diag.new) (unsupported_line place name.now)) }
+    ensures front { OnErr result (AppendsFront (K.written diag.old) (K.written diag.new) (unsupported_line place name.now)) }
+    ensures cause { HasCause (K.faults diag.old) (K.faults diag.new) result }
+{
+    put_pieces(
+        diag,
+        &[
+            Piece::Text(b"carafe: Unsupported "),
+            Piece::Number(place),
+            Piece::Text(b" "),
+            Piece::Text(name),
+            Piece::Text(b"\n"),
+        ],
+    )
 }

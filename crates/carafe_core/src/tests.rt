@@ -1,5 +1,6 @@
 // The command on the layer map and layouts that it knows, through the top call.
 use crate::{Refusal, Status, Stream, Which, WordRefusal, carafe};
+use cif_reader::{CifRefusal, Feature};
 use probe_io::{MemShelf, MemSink, Name};
 use std::alloc::{AllocError, Global};
 use std::test::Fail;
@@ -13,7 +14,17 @@ const CORNER: &str = "L CMF; B 10 10 5 5; B 10 10 15 15; 94 Vdd 5 5; 94 GND 15 1
 const THREE_BOXES: &str =
     "L CMF; B 2 10 1 5; B 2 10 5 5; B 2 10 9 5; 94 Vdd 1 5 CMF; 94 GND 5 5 CMF; E";
 
-const CUT_OFF: &str = "L CMF; B 10 10 5 5";
+const NOISY: &str =
+    "L CMF; BOX LENGTH 10 WIDTH 10 CENTER 5,5; (another (one)); B10 10 17 5 -1 0;; 94 Vdd 5 5; 94 GND 17 5; End";
+
+const UNCALLED: &str =
+    "DS 7 2 1; L CPG; P 0 0 0 1 1 1 1 0; W 1 0 0 0 9; DF; L CMF; B 1 1 5 5; B 0 4 9 9; E";
+
+const CALLED: &str = "DS 1; L CMF; B 10 10 5 5; DF; C 1 T 12 0; E";
+
+const DRAWN_ROUND: &str = "L CMF; W 2 0 0 10 0; E";
+
+const FAR: &str = "L CMF; B 2 2 8388608 0; E";
 
 const TOUCHING: &str = "L CMF; B 10 10 5 5; B 10 10 15 5; E";
 
@@ -88,6 +99,16 @@ fn reports_are_whole(rt: HostRuntime) -> Result<(), Fail> {
             "carafe bridges 1\nside 2\nnets 2\nlabels 2 0 0\nbridges 0\ntally bridges 0\n",
         ),
         (
+            "bridges map cif 3",
+            NOISY,
+            "carafe bridges 1\nside 3\nnets 2\nlabels 2 0 0\nbridges 1\nbridge 1 Vdd GND 25 metal=25\ntally bridges 1\n",
+        ),
+        (
+            "bridges map cif 3",
+            UNCALLED,
+            "carafe bridges 1\nside 3\nnets 1\nlabels 0 0 0\nbridges 0\ntally bridges 0\n",
+        ),
+        (
             "bridges map cif 1",
             CORNER,
             "carafe bridges 1\nside 1\nnets 2\nlabels 2 0 0\nbridges 1\nbridge 1 Vdd GND 1 metal=1\ntally bridges 1\n",
@@ -140,7 +161,9 @@ fn refusals_come_in_order(rt: HostRuntime) -> Result<(), Fail> {
         ("bridges map cif +3", TWO_BOXES, side),
         ("bridges other absent x", TWO_BOXES, side),
         ("bridges other absent 3", TWO_BOXES, map),
-        ("bridges map cif 3", CUT_OFF, cif),
+        ("bridges map cif 3", CALLED, cif),
+        ("bridges map cif 3", DRAWN_ROUND, cif),
+        ("bridges map cif 3", FAR, cif),
         ("bridges map cif 3", TOUCHING, cif),
         ("bridges map cif 3", LABEL_ON_EDGE, cif),
         ("bridges map cif 3", ONE_NAME, cif),
@@ -151,6 +174,82 @@ fn refusals_come_in_order(rt: HostRuntime) -> Result<(), Fail> {
         assert_eq!(rt; ending.status.exit_number(), exit, "{words}");
         assert_eq!(rt; ending.diag.bytes(), line.as_bytes(), "{words}");
         assert_eq!(rt; ending.out.bytes().len(), 0, "{words}");
+    }
+    Ok(())
+}
+
+#[test]
+fn layouts_are_refused_at_their_place(rt: HostRuntime) -> Result<(), Fail> {
+    let rows = [
+        ("", CifRefusal::Syntax(0), "carafe: Syntax 0\n"),
+        (
+            "L CMF; B 10 10 5",
+            CifRefusal::Syntax(7),
+            "carafe: Syntax 7\n",
+        ),
+        (
+            "L CMF; B 10 10 5 5;",
+            CifRefusal::Syntax(19),
+            "carafe: Syntax 19\n",
+        ),
+        (
+            "DS 1 2; L CMF; B 10 10 5 5; DF; C 1; E",
+            CifRefusal::Syntax(0),
+            "carafe: Syntax 0\n",
+        ),
+        (
+            "L CMF; B 2147483648 2 0 0; E",
+            CifRefusal::NumberTooLarge(9),
+            "carafe: NumberTooLarge 9\n",
+        ),
+        (
+            "L CMF; R 10 0 0; E",
+            CifRefusal::Unsupported(7, Feature::Round),
+            "carafe: Unsupported 7 Round\n",
+        ),
+        (
+            "DS 1; DF; DD 1; E",
+            CifRefusal::Unsupported(10, Feature::DefDelete),
+            "carafe: Unsupported 10 DefDelete\n",
+        ),
+        (
+            "L CMF; P 0 0 10 0 10 10; E",
+            CifRefusal::NotManhattan(7),
+            "carafe: NotManhattan 7\n",
+        ),
+        (
+            "B 10 10 5 5; E",
+            CifRefusal::NoLayer(0),
+            "carafe: NoLayer 0\n",
+        ),
+        (
+            "DS 1; DF; DS 1; DF; E",
+            CifRefusal::TwiceDefined(10),
+            "carafe: TwiceDefined 10\n",
+        ),
+        (
+            "DS 1 0 2; DF; E",
+            CifRefusal::ZeroScale(0),
+            "carafe: ZeroScale 0\n",
+        ),
+        (
+            "DS 1 1 2; L CMF; B 3 4 0 0; DF; C 1; E",
+            CifRefusal::OffGrid(17),
+            "carafe: OffGrid 17\n",
+        ),
+        (
+            "94 #a 1 1; E",
+            CifRefusal::BadLabel(0),
+            "carafe: BadLabel 0\n",
+        ),
+    ];
+    for (text, refusal, line) in rows {
+        let ending = call(rt.alloc(), "bridges map cif 3", text, &NONE)?;
+        let status = Status::Refused(Refusal::Cif(refusal));
+        assert_eq!(rt; ending.status, status, "{text}");
+        assert_eq!(rt; ending.status.exit_number(), 2, "{text}");
+        assert_eq!(rt; ending.diag.bytes(), line.as_bytes(), "{text}");
+        assert_eq!(rt; ending.out.bytes().len(), 0, "{text}");
     }
     Ok(())
 }

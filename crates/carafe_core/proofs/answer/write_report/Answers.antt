@@ -14,7 +14,7 @@ ranked_bridges-requires-clause-few g c =
 pub ranked_bridges-requires-clause-within : goal.ranked_bridges-requires-clause-within
 ranked_bridges-requires-clause-within g c =
     subst (λ nets. All (IsRectWithin (2 ^ 24)) nets) (sym c.as_slice-3.ensures.value)
-    (All-permutation (IsRectWithin (2 ^ 24)) c.args.layout.boxes.items c.numbered-nets.result.items c.numbered-nets.ensures.same c.requires.within)
+    (All-permutation (IsRectWithin (2 ^ 24)) c.args.layout.boxes.items c.numbered-nets.result.items c.numbered-nets.ensures.same c.requires.plain.near)
 
 pub put_report-requires : goal.put_report-requires
 put_report-requires g c =

@@ -1,5 +1,6 @@
 pub mod Areas
 pub mod Banding
+pub mod Clipping
 pub mod Growing
 pub mod Joins
 pub mod Putting

@@ -1,3 +1,4 @@
+pub mod Columns
 pub mod Joins
 pub mod Rows
 pub mod Strips

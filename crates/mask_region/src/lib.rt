@@ -13,6 +13,7 @@
 #![tactic(auto)]
 
 mod bands;
+mod columns;
 mod ends;
 mod laws;
 mod masks;

@@ -6,6 +6,7 @@ ghost use Rattle.mask_region.specs.Joins.{joined};
 ghost use Rattle.mask_region.specs.Strips.{is_in, AreStripsWithin, Banded};
 
 use crate::bands::join;
+use crate::columns::meet_strips;
 use crate::ends::Joining;
 use crate::rects::strips_of;
 use crate::sizes::{area_of, grown_rects, has_cell};
@@ -65,7 +66,8 @@ impl Region {
     pub fn meet(&self, alloc: Global, other: &Region) -> Result<Region, AllocError>
         ensures { IfOk result (λ r. (x y : ℤ) → is_in r x y ≡ (is_in self.now x y && is_in other.now x y)) }
     {
-        self.joined(alloc, Joining::Meet, other)
+        let strips = meet_strips(alloc, self.strips.as_slice(), other.strips.as_slice())?;
+        Ok(Region { strips })
     }
 
     /// The cells that are in this region and not in the other one.

@@ -1,6 +1,7 @@
 ghost use Rattle.std.specs.Prelude.{◌≡◌, ◌^◌, ◌<◌, ◌≤◌, ℤ, not, int_lt};
 ghost use Rattle.plane_geom.specs.Bounds.{IsRectWithin};
 ghost use Rattle.plane_geom.specs.Cells.{is_between, is_in_rect, is_met, count_cells};
+ghost use Rattle.mask_region.specs.Columns.{reaches};
 ghost use Rattle.mask_region.specs.Strips.{is_in_strip, IsStrip, IsStripWithin};
 ghost use Rattle.mask_region.specs.Sweeping.{is_before_cell};
 
@@ -51,6 +52,13 @@ impl Strip {
         ensures { result ≡ is_before_cell cell.x cell.y self.now }
     {
         is_up_to(self.y1, cell.y) || (is_up_to(self.y0, cell.y) && is_up_to(self.x1, cell.x))
+    }
+
+    /// Whether the strip has a cell in the columns from `left` up to `right`.
+    pub(crate) fn reaches(&self, left: i32, right: i32) -> bool
+        ensures { result ≡ reaches left right self.now }
+    {
+        self.x0 < right && left < self.x1
     }
 
     /// Whether the cell is one of the strip's.

@@ -90,8 +90,8 @@ item_built before b b' at what w item scale h bare e s place is kept same_layer 
       outer = same_outer ∙ h.outer ∙ sym step.around_is;
       opening = same_open ∙ h.opening ∙ sym step.open_is;
       inside = λ t.
-        subst (AreSaid (items_in b'.open)) (sym (step.since_is ∙ ap (λ r. said_since before ++ r) only))
-        (subst (λ r. AreSaid r (said_since before ++ remark ∷ [])) (sym grown) (inside_case b.open (said_since before) item remark (ap is_some (sym same_open) ∙ t) h.inside (λ items a. push items (said_since before) a)));
+          subst (AreSaid (items_in b'.open)) (sym (step.since_is ∙ ap (λ r. said_since before ++ r) only))
+          (subst (λ r. AreSaid r (said_since before ++ remark ∷ [])) (sym grown) (inside_case b.open (said_since before) item remark (ap is_some (sym same_open) ∙ t) h.inside (λ items a. push items (said_since before) a)));
       symbols = subst (AreDefined b'.file.symbols) (sym step.defined_is) (subst (λ r. AreDefined r (definitions before)) (sym same_symbols) h.symbols);
       top = subst (λ r. AreSaid r (said_outside (c ∷ before))) (sym grown_top) (outside_case b.open before c b.file.top item remark (built_inside before b h) h.top only (push b.file.top (said_outside before) h.top));
       starts = λ n. ap (λ t. t || list_any (starts n) before) (step.starts_none n) ∙ h.starts n ∙ λ i. list_any (has_number n) (sym same_symbols i) || opens n (sym same_open i);
@@ -191,7 +191,7 @@ closed_defined None before after at e inside h closed =
 closed_defined (Some o) before after at e inside h closed =
     subst (λ r. AreDefined after (definitions at ++ definition_of r (said_since at))) e
     (subst (λ r. AreDefined r (definitions at ++ definition_of (opening_of (Some o)) (said_since at))) (sym closed.4)
-     (defined_push before (definitions at) closed.0 (record { number = o.number; at = o.pos; remarks = said_since at }) h closed.1 closed.2 (subst (λ items. AreSaid items (said_since at)) (sym closed.3) (inside refl))))
+    (defined_push before (definitions at) closed.0 (record { number = o.number; at = o.pos; remarks = said_since at }) h closed.1 closed.2 (subst (λ items. AreSaid items (said_since at)) (sym closed.3) (inside refl))))
 
 closed_numbers : (r : Option Opening) (items : List Item) (before after : List Symbol) (n : ℕ) → IsClosed r items before after → (list_any (has_number n) before || opens n r) ≡ (list_any (has_number n) after || false)
 closed_numbers None items before after n closed = ap (λ r. list_any (has_number n) r || false) (sym closed)

@@ -85,9 +85,10 @@ box_within s r h =
 points_near : (s : Scale) (ps : List Point) → list_any (is_far s) (flat_map doubled ps) ≡ false → AllByRecursion (IsPointWithin limit) (map (scaled_point s) ps)
 points_near s [] h = tt
 points_near s (p ∷ ps) h =
-    let y = or_right (is_far s (pos 2 *ℤ p.x)) _ h in
-    (record { x = scaled_within s (pos 2 *ℤ p.x) (or_left (is_far s (pos 2 *ℤ p.x)) _ h); y = scaled_within s (pos 2 *ℤ p.y) (or_left (is_far s (pos 2 *ℤ p.y)) _ y) },
-     points_near s ps (or_right (is_far s (pos 2 *ℤ p.y)) _ y))
+    let y = or_right (is_far s (pos 2 *ℤ p.x)) _ h in (
+      record { x = scaled_within s (pos 2 *ℤ p.x) (or_left (is_far s (pos 2 *ℤ p.x)) _ h); y = scaled_within s (pos 2 *ℤ p.y) (or_left (is_far s (pos 2 *ℤ p.y)) _ y) },
+      points_near s ps (or_right (is_far s (pos 2 *ℤ p.y)) _ y),
+    )
 
 same_of : (z w : ℤ) → int_eq z w ≡ true → z ≡ w
 same_of z w h = grind (arith, ints)

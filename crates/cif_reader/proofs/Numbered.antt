@@ -45,9 +45,10 @@ any_push t (x ∷ xs) s h k = ap (λ b. b || list_any t (xs ++ s ∷ [])) (or_le
 
 apart_push : (xs : List Symbol) (s : Symbol) → AreApart xs → list_any (has_number s.number) xs ≡ false → AreApart (xs ++ s ∷ [])
 apart_push [] s h a = (refl, tt)
-apart_push (x ∷ xs) s h a =
-    (any_push (has_number x.number) xs s h.0 (same_turned s.number x.number (or_left (s.number == x.number) (list_any (has_number s.number) xs) a)),
-     apart_push xs s h.1 (or_right (s.number == x.number) (list_any (has_number s.number) xs) a))
+apart_push (x ∷ xs) s h a = (
+  any_push (has_number x.number) xs s h.0 (same_turned s.number x.number (or_left (s.number == x.number) (list_any (has_number s.number) xs) a)),
+  apart_push xs s h.1 (or_right (s.number == x.number) (list_any (has_number s.number) xs) a),
+)
 
 -- what a file keeps when a symbol is defined
 pub record Defined (before after : List (ℕ × Symbol)) (s : Symbol) (top : List Item) : Type 0 where

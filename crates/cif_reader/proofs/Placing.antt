@@ -207,7 +207,7 @@ pub call_place : (s : Scale) (ts : List Transform) (turn made : Place) (by : Pla
     → ((p : Point) → placed made p ≡ placed by (placed turn p)) → IsPlaceOf (steps_of (scaled s) ts) made
 call_place s ts turn made by some whole turns only dx dy both = record {
   moves = λ p.
-    both p ∙ only (placed turn p) ∙ ap (λ q. plus q (record { x = by.dx; y = by.dy })) (turns.moves p)
-    ∙ ap (plus (moved (flat_map turns_once ts) p)) ((λ i. record { x = dx i; y = dy i }) ∙ shift_scaled s ts some whole)
-    ∙ sym (steps_split (scaled s) ts p);
+      both p ∙ only (placed turn p) ∙ ap (λ q. plus q (record { x = by.dx; y = by.dy })) (turns.moves p)
+      ∙ ap (plus (moved (flat_map turns_once ts) p)) ((λ i. record { x = dx i; y = dy i }) ∙ shift_scaled s ts some whole)
+      ∙ sym (steps_split (scaled s) ts p);
 }

@@ -78,7 +78,7 @@ is_drawn (wire w p) = true
 is_drawn _ = false
 
 abbrev pub starts : ℕ → Placed → Bool
-starts number c = elim c.what [ | start n s ↦ number == n.value | _ ↦ false ]
+starts number c = elim c.what [ start n s ↦ number == n.value | _ ↦ false ]
 
 -- It defines a symbol that was defined before.
 abbrev pub is_twice : List Placed → Command → Bool
@@ -104,14 +104,14 @@ abbrev pub fault_in : Option (List ℕ) → Scale → Bool → Placed → Option
 fault_in current s twice c =
     option_or (option_map (λ n. NumberTooLarge n.at) (large_number c.what))
     (if goes_far s c.what then Some (NumberTooLarge c.at)
-     else if has_many_points c.what then Some (TooManyPoints c.at)
-     else if not (is_manhattan c.what) then Some (NotManhattan c.at)
-     else if is_drawn c.what && is_none current then Some (NoLayer c.at)
-     else if twice then Some (TwiceDefined c.at)
-     else if has_zero_scale c.what then Some (ZeroScale c.at)
-     else if is_off_grid s c.what then Some (OffGrid c.at)
-     else if is_bad_label c.what then Some (BadLabel c.at)
-     else None)
+    else if has_many_points c.what then Some (TooManyPoints c.at)
+    else if not (is_manhattan c.what) then Some (NotManhattan c.at)
+    else if is_drawn c.what && is_none current then Some (NoLayer c.at)
+    else if twice then Some (TwiceDefined c.at)
+    else if has_zero_scale c.what then Some (ZeroScale c.at)
+    else if is_off_grid s c.what then Some (OffGrid c.at)
+    else if is_bad_label c.what then Some (BadLabel c.at)
+    else None)
 
 abbrev pub fault_of : List Placed → Placed → Option CifRefusal
 fault_of before c = fault_in (layer_behind before) (scale_behind before) (is_twice before c.what) c

@@ -54,7 +54,7 @@ remarks before c = map (λ what. record { at = c.at; what = what }) (said (layer
 -- what was said since the last start or finish
 abbrev pub said_since : List Placed → List Remark
 said_since [] = []
-said_since (c ∷ before) = elim c.what [ | start n s ↦ [] | finish ↦ [] | _ ↦ said_since before ++ remarks before c ]
+said_since (c ∷ before) = elim c.what [ start n s ↦ [] | finish ↦ [] | _ ↦ said_since before ++ remarks before c ]
 
 -- what was said outside of definitions
 abbrev pub said_outside : List Placed → List Remark
@@ -74,7 +74,7 @@ definition_of (Some o) inside = record { number = o.symbol; at = o.at; remarks =
 -- the definitions in order: each finish ends one
 abbrev pub definitions : List Placed → List Definition
 definitions [] = []
-definitions (c ∷ before) = elim c.what [ | finish ↦ definitions before ++ definition_of (open_behind before) (said_since before) | _ ↦ definitions before ]
+definitions (c ∷ before) = elim c.what [ finish ↦ definitions before ++ definition_of (open_behind before) (said_since before) | _ ↦ definitions before ]
 
 -- ---- the file
 

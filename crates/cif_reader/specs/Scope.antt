@@ -8,12 +8,12 @@ use Rattle.cif_reader.specs.declared.measure.Scale.{Scale}
 abbrev mutual
   pub layer_behind : List Placed → Option (List ℕ)
   layer_behind [] = None
-  layer_behind (c ∷ before) = elim c.what [ | layer name ↦ Some name | start n s ↦ None | finish ↦ layer_around before | _ ↦ layer_behind before ]
+  layer_behind (c ∷ before) = elim c.what [ layer name ↦ Some name | start n s ↦ None | finish ↦ layer_around before | _ ↦ layer_behind before ]
 
   -- the layer from before the last start
   pub layer_around : List Placed → Option (List ℕ)
   layer_around [] = None
-  layer_around (c ∷ before) = elim c.what [ | start n s ↦ layer_behind before | _ ↦ layer_around before ]
+  layer_around (c ∷ before) = elim c.what [ start n s ↦ layer_behind before | _ ↦ layer_around before ]
 
 -- the scale a/b that a start gives: 1/1 where it gives none
 abbrev pub scale_of : Option (Number × Number) → Scale
@@ -29,7 +29,7 @@ pub record Opening : Type 0 where
 -- the definition that is open behind the commands
 abbrev pub open_behind : List Placed → Option Opening
 open_behind [] = None
-open_behind (c ∷ before) = elim c.what [ | start n s ↦ Some (record { at = c.at; symbol = n.value; scale = scale_of s }) | finish ↦ None | _ ↦ open_behind before ]
+open_behind (c ∷ before) = elim c.what [ start n s ↦ Some (record { at = c.at; symbol = n.value; scale = scale_of s }) | finish ↦ None | _ ↦ open_behind before ]
 
 -- the scale of the open definition: 1/1 outside of definitions
 abbrev pub scale_in : Option Opening → Scale

@@ -1,12 +1,11 @@
 -- A text has one answer.
-use Rattle.std.proofs.Common.{◌≡◌, ℕ, zero, suc, ◌+◌, ◌-◌, ◌<◌, ◌≤◌, Bool, true, false, if◌then◌else◌, List, [], ◌∷◌, ◌++◌, length, codes, refl, sym, ap, subst, ◌∙◌, arith, ◌⊎◌, inl, inr}
+use Rattle.std.proofs.Common.{◌≡◌, ℕ, zero, suc, ◌+◌, ◌<◌, ◌≤◌, false, List, [], ◌∷◌, ◌++◌, length, codes, refl, sym, ap, subst, ◌∙◌, arith, ◌⊎◌, inl, inr}
 use Rattle.std.specs.Prelude.{Option, Some, None}
 use Rattle.std.specs.Option.{option_or}
 use Rattle.std.proofs.lemmas.Bool.{cases_lt}
 use Rattle.std.proofs.lemmas.List.{length-append}
-use Rattle.plane_geom.specs.Covering.{figure_of}
 use Rattle.plane_geom.proofs.Turning.{IsPlaceOf-unique}
-use Rattle.cif_grammar.specs.Grammar.{Command, Placed, is_inside, may_stand, Items, Spells, Longest, is_gap}
+use Rattle.cif_grammar.specs.Grammar.{Placed, is_inside, may_stand, Longest, is_gap}
 use Rattle.cif_grammar.specs.Readers.{skip, command_at}
 use Rattle.cif_grammar.proofs.Options.{bind_some, guarded, some_is}
 use Rattle.cif_grammar.proofs.Shorter.{skip_shorter}

@@ -1,12 +1,12 @@
 -- Commands at fault, and the refusals of texts.
-use Rattle.std.specs.Prelude.{◌≡◌, ◌⊎◌, ℕ, ◌+◌, Bool, true, false, not, ◌&&◌, ◌||◌, ◌==◌, nat_lt, List, [], ◌∷◌, ◌++◌, length, drop, find, flat_map, Option, Some, None, option_map, is_some, is_none, if◌then◌else◌}
+use Rattle.std.specs.Prelude.{◌≡◌, ◌⊎◌, ℕ, Bool, true, false, not, ◌&&◌, ◌||◌, ◌==◌, nat_lt, List, [], ◌∷◌, ◌++◌, length, drop, find, flat_map, Option, Some, None, option_map, is_some, is_none, if◌then◌else◌}
 use Rattle.std.specs.List.{list_any, list_all, prefix_len}
 use Rattle.std.specs.Option.{option_or}
 use Rattle.plane_geom.specs.Covering.{is_along, outline, segments}
 use Rattle.cif_grammar.specs.declared.spelled.Number.{Number}
 use Rattle.cif_grammar.specs.declared.spelled.Spot.{Spot}
 use Rattle.cif_grammar.specs.Words.{limit, is_blank}
-use Rattle.cif_grammar.specs.Grammar.{Points, Transform, translate, mirror_x, mirror_y, rotate, Command, box, polygon, wire, layer, call, user, comment, start, finish, Placed, Items, Longest, is_inside}
+use Rattle.cif_grammar.specs.Grammar.{Points, Transform, translate, rotate, Command, box, polygon, wire, call, user, start, Placed, Items, Longest, is_inside}
 use Rattle.cif_reader.specs.declared.measure.Scale.{Scale}
 use Rattle.cif_reader.specs.declared.refusal.CifRefusal.{CifRefusal}
 use Rattle.cif_reader.specs.declared.refusal.CifRefusal.TheVariants.{Syntax, NumberTooLarge, Unsupported, NotManhattan, NoLayer, TwiceDefined, ZeroScale, OffGrid, BadLabel, TooManyPoints}

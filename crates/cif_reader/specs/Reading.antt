@@ -1,9 +1,9 @@
 -- The file that commands without fault say, in mask units.
-use Rattle.std.specs.Prelude.{◌≡◌, ◌⊎◌, ℕ, pos, Bool, true, false, List, [], ◌∷◌, ◌++◌, map, Option, Some, None, if◌then◌else◌}
+use Rattle.std.specs.Prelude.{◌≡◌, ℕ, pos, List, [], ◌∷◌, ◌++◌, map, Option, Some, None, if◌then◌else◌}
 use Rattle.plane_geom.specs.declared.shapes.Point.{Point}
 use Rattle.plane_geom.specs.Covering.{Figure, block, polygon as outlined, wire as drawn_along, figure_of}
 use Rattle.plane_geom.specs.Placement.{Step, IsPlaceOf}
-use Rattle.cif_grammar.specs.Grammar.{Points, Command, box, polygon, wire, layer, call, user, comment, start, finish, Placed, Spells, is_inside}
+use Rattle.cif_grammar.specs.Grammar.{Command, box, polygon, wire, call, user, start, finish, Placed, Spells, is_inside}
 use Rattle.cif_reader.specs.declared.measure.Scale.{Scale}
 use Rattle.cif_reader.specs.declared.file.Item.{Item}
 use Rattle.cif_reader.specs.declared.file.Symbol.{Symbol}

@@ -1,7 +1,7 @@
 -- Where a command stands: what the commands before it, the latest first, say of its layer, its definition and its scale.
 use Rattle.std.specs.Prelude.{ℕ, List, [], ◌∷◌, Option, Some, None}
 use Rattle.cif_grammar.specs.declared.spelled.Number.{Number}
-use Rattle.cif_grammar.specs.Grammar.{Command, box, polygon, wire, layer, call, user, comment, start, finish, Placed}
+use Rattle.cif_grammar.specs.Grammar.{layer, start, finish, Placed}
 use Rattle.cif_reader.specs.declared.measure.Scale.{Scale}
 
 -- The layer is that of the last `L`. It is none behind a start. Behind a finish it is the one from before the start.

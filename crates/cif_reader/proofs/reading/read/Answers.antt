@@ -1,4 +1,4 @@
-use Rattle.std.proofs.Common.{◌∙◌, sym, ap, refl, inr}
+use Rattle.std.proofs.Common.{◌∙◌, sym, inr}
 use Rattle.cif_grammar.specs.Seen.{seen}
 use Rattle.cif_reader.proofs.Reaching.{rest_within, fault_here, fine_here, gets_shorter, goes_on, stands_may, fault_behind, accepted_here}
 use Rattle.cif_reader.proofs.reading.read.Goals as goal

@@ -1,4 +1,4 @@
-use Rattle.std.proofs.Common.{◌∙◌, sym, ap, refl, arith}
+use Rattle.std.proofs.Common.{arith}
 use Rattle.cif_grammar.specs.Words.{limit}
 use Rattle.cif_reader.proofs.Starting.{start_small, none_in}
 use Rattle.cif_reader.proofs.Building.{start_built, finish_built, on_ok5}

@@ -1,12 +1,11 @@
 -- A text has one answer.
-use Rattle.std.proofs.Common.{◌≡◌, ℕ, zero, suc, ◌+◌, ◌-◌, ◌<◌, ◌≤◌, Bool, true, false, if◌then◌else◌, List, [], ◌∷◌, ◌++◌, length, codes, refl, sym, ap, subst, ◌∙◌, arith, ◌⊎◌, inl, inr}
+use Rattle.std.proofs.Common.{◌≡◌, ℕ, zero, suc, ◌+◌, ◌<◌, ◌≤◌, false, List, [], ◌∷◌, ◌++◌, length, codes, refl, sym, ap, subst, ◌∙◌, arith, ◌⊎◌, inl, inr}
 use Rattle.std.specs.Prelude.{Option, Some, None}
 use Rattle.std.specs.Option.{option_or}
 use Rattle.std.proofs.lemmas.Bool.{cases_lt}
 use Rattle.std.proofs.lemmas.List.{length-append}
-use Rattle.plane_geom.specs.Covering.{figure_of}
 use Rattle.plane_geom.proofs.Turning.{IsPlaceOf-unique}
-use Rattle.cif_grammar.specs.Grammar.{Command, Placed, is_inside, may_stand, Items, Spells, Longest, is_gap}
+use Rattle.cif_grammar.specs.Grammar.{Placed, is_inside, may_stand, Longest, is_gap}
 use Rattle.cif_grammar.specs.Readers.{skip, command_at}
 use Rattle.cif_grammar.proofs.Options.{bind_some, guarded, some_is}
 use Rattle.cif_grammar.proofs.Shorter.{skip_shorter}
@@ -113,13 +112,14 @@ none_beyond text front rest commands l w h =
     let stays : length walked.0.1 ≡ length (skip is_gap rest) = ap (λ (z : List Placed × List ℕ). length z.1) (sym same) in
     let most = l.longest w.0 longer.front w.1 longer.spelled longer.whole in
     omega (arith, most, shorter, behind, stays, skip_shorter is_gap rest, omega_length text longer.front w.1 longer.whole, omega_length text front rest l.whole) where
-  omega_length : (t a b : List ℕ) → t ≡ a ++ b → length t ≡ length a + length b
-  omega_length t a b e = ap length e ∙ length-append a b
+      omega_length : (t a b : List ℕ) → t ≡ a ++ b → length t ≡ length a + length b
+      omega_length t a b e = ap length e ∙ length-append a b
 
 not_with : (text front rest : List ℕ) (commands : List Placed) (f : CifRefusal) → Longest text commands front rest → first_fault commands ≡ None → FaultAt text f → ⊥
 not_with text front rest commands f l none a = not_with_case (cases_lt (length commands) (suc (length a.before))) where
   here : walk (length commands) (length text) text ≡ Some (commands, skip is_gap rest)
   here = walk_again commands text front rest l.items l.whole
+
   not_with_case : length commands < suc (length a.before) ⊎ suc (length a.before) ≤ length commands → ⊥
   not_with_case (inr few) = not_among text f a (length commands) (commands, skip is_gap rest) here few none
   not_with_case (inl many) =

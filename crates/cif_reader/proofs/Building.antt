@@ -1,5 +1,5 @@
 -- The state behind one command more.
-use Rattle.std.proofs.Common.{◌≡◌, ℕ, ◌+◌, ◌<◌, Bool, true, false, not, ◌||◌, if◌then◌else◌, List, [], ◌∷◌, ◌++◌, map, refl, sym, ap, subst, ◌∙◌, append-nil, arith}
+use Rattle.std.proofs.Common.{◌≡◌, ℕ, ◌<◌, Bool, true, false, not, ◌||◌, if◌then◌else◌, List, [], ◌∷◌, ◌++◌, map, refl, sym, ap, subst, ◌∙◌, append-nil, arith}
 use Rattle.std.specs.Prelude.{Option, Some, None, is_some, ◌==◌, OnOk, Ok, Err, Result, option_map}
 use Rattle.std.specs.List.{list_any}
 use Rattle.std.specs.Option.{option_or}
@@ -9,7 +9,7 @@ use Rattle.cif_grammar.specs.declared.spelled.Number.{Number}
 use Rattle.cif_grammar.specs.declared.spelled.Command.{Command as Held}
 use Rattle.cif_grammar.specs.declared.spelled.Command.TheVariants.{Box, Polygon, Wire, Layer, Call, User, Comment, Start, Finish}
 use Rattle.cif_grammar.specs.Seen.{seen}
-use Rattle.cif_grammar.specs.Grammar.{Command, box, polygon, wire, layer, call, user, comment, start, finish, Placed, is_inside, may_stand}
+use Rattle.cif_grammar.specs.Grammar.{Command, layer, start, finish, Placed, is_inside, may_stand}
 use Rattle.cif_reader.specs.declared.measure.Scale.{Scale}
 use Rattle.cif_reader.specs.declared.refusal.CifRefusal.{CifRefusal}
 use Rattle.cif_reader.specs.declared.refusal.CifRefusal.TheVariants.{NumberTooLarge}
@@ -18,14 +18,14 @@ use Rattle.cif_reader.specs.declared.file.What.{What}
 use Rattle.cif_reader.specs.declared.file.Symbol.{Symbol}
 use Rattle.cif_reader.specs.declared.builder.Open.{Open}
 use Rattle.cif_reader.specs.declared.builder.Builder.{Builder}
-use Rattle.cif_reader.specs.Scope.{Opening, layer_behind, layer_around, open_behind, scale_behind, scale_in, scale_of}
+use Rattle.cif_reader.specs.Scope.{Opening, layer_behind, open_behind, scale_behind, scale_in, scale_of}
 use Rattle.cif_reader.specs.File.{Contents, AreKept, IsKept, has_number}
 use Rattle.cif_reader.specs.Reading.{Saying, Remark, IsSaid, AreSaid, AreDefined, definitions, definition_of, said_since, said_outside, said, remarks}
 use Rattle.cif_reader.specs.Faults.{starts, large_number, is_twice, has_zero_scale, fault_in, fault_of}
-use Rattle.cif_reader.specs.Built.{IsSaidBy, IsSound, IsBuilt, IsClosed, opening_of, items_in, grown_in, grown_outside, opens, is_bare}
-use Rattle.cif_reader.proofs.Bools.{or_left, or_right}
+use Rattle.cif_reader.specs.Built.{IsSaidBy, IsBuilt, IsClosed, opening_of, items_in, grown_in, grown_outside, opens, is_bare}
+use Rattle.cif_reader.proofs.Bools.{or_right}
 use Rattle.cif_reader.proofs.Numbered.{kept_push}
-use Rattle.cif_reader.proofs.Steps.{Bare, bare_step, outside_none, none_said, one_said, said_push, defined_push, built_inside, Faultless, faultless}
+use Rattle.cif_reader.proofs.Steps.{bare_step, outside_none, none_said, one_said, said_push, defined_push, built_inside, faultless}
 
 pub on_ok4 : {T E P Q R S U : Type 0} (r : Result T E) → (P → Q → R → S → U) → OnOk r P → OnOk r Q → OnOk r R → OnOk r S → OnOk r U
 on_ok4 (Ok x) f p q s t = f p q s t
@@ -90,8 +90,8 @@ item_built before b b' at what w item scale h bare e s place is kept same_layer 
       outer = same_outer ∙ h.outer ∙ sym step.around_is;
       opening = same_open ∙ h.opening ∙ sym step.open_is;
       inside = λ t.
-        subst (AreSaid (items_in b'.open)) (sym (step.since_is ∙ ap (λ r. said_since before ++ r) only))
-        (subst (λ r. AreSaid r (said_since before ++ remark ∷ [])) (sym grown) (inside_case b.open (said_since before) item remark (ap is_some (sym same_open) ∙ t) h.inside (λ items a. push items (said_since before) a)));
+          subst (AreSaid (items_in b'.open)) (sym (step.since_is ∙ ap (λ r. said_since before ++ r) only))
+          (subst (λ r. AreSaid r (said_since before ++ remark ∷ [])) (sym grown) (inside_case b.open (said_since before) item remark (ap is_some (sym same_open) ∙ t) h.inside (λ items a. push items (said_since before) a)));
       symbols = subst (AreDefined b'.file.symbols) (sym step.defined_is) (subst (λ r. AreDefined r (definitions before)) (sym same_symbols) h.symbols);
       top = subst (λ r. AreSaid r (said_outside (c ∷ before))) (sym grown_top) (outside_case b.open before c b.file.top item remark (built_inside before b h) h.top only (push b.file.top (said_outside before) h.top));
       starts = λ n. ap (λ t. t || list_any (starts n) before) (step.starts_none n) ∙ h.starts n ∙ λ i. list_any (has_number n) (sym same_symbols i) || opens n (sym same_open i);
@@ -191,7 +191,7 @@ closed_defined None before after at e inside h closed =
 closed_defined (Some o) before after at e inside h closed =
     subst (λ r. AreDefined after (definitions at ++ definition_of r (said_since at))) e
     (subst (λ r. AreDefined r (definitions at ++ definition_of (opening_of (Some o)) (said_since at))) (sym closed.4)
-     (defined_push before (definitions at) closed.0 (record { number = o.number; at = o.pos; remarks = said_since at }) h closed.1 closed.2 (subst (λ items. AreSaid items (said_since at)) (sym closed.3) (inside refl))))
+    (defined_push before (definitions at) closed.0 (record { number = o.number; at = o.pos; remarks = said_since at }) h closed.1 closed.2 (subst (λ items. AreSaid items (said_since at)) (sym closed.3) (inside refl))))
 
 closed_numbers : (r : Option Opening) (items : List Item) (before after : List Symbol) (n : ℕ) → IsClosed r items before after → (list_any (has_number n) before || opens n r) ≡ (list_any (has_number n) after || false)
 closed_numbers None items before after n closed = ap (λ r. list_any (has_number n) r || false) (sym closed)

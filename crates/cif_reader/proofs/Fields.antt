@@ -1,14 +1,13 @@
 -- The fields of a label, one by one.
-use Rattle.std.proofs.Common.{◌≡◌, ℕ, suc, zero, ◌+◌, ◌<◌, ◌≤◌, Bool, true, false, not, cond, if◌then◌else◌, List, [], ◌∷◌, ◌++◌, length, drop, take, refl, sym, ap, subst, ◌∙◌, arith, add-one, rules, eqb-true}
+use Rattle.std.proofs.Common.{◌≡◌, ℕ, suc, zero, ◌+◌, Bool, true, false, not, cond, if◌then◌else◌, List, [], ◌∷◌, length, drop, take, refl, sym, ap, ◌∙◌, arith, eqb-true}
 use Rattle.std.proofs.lemmas.Bool.Decides.{nat_tests}
-use Rattle.std.specs.Prelude.{Option, Some, None, filter, ◌==◌, option_map}
+use Rattle.std.specs.Prelude.{Option, Some, None, filter, ◌==◌}
 use Rattle.std.specs.List.{list_all, prefix_len, slice_split, onto_first}
 use Rattle.std.specs.Char.{is_ascii_digit}
 use Rattle.std.specs.Str.Parse.{AllDigits}
-use Rattle.plane_geom.specs.Names.{is_short}
 use Rattle.cif_grammar.proofs.Numbers.{own}
-use Rattle.cif_reader.specs.Label.{Label, is_white, is_label, fields, label_at, label_of_fields, label_in, coordinate_of}
-use Rattle.cif_reader.specs.Near.{is_dark, split_field, field_at, label_on, label_tail, label_by_fields, ◌>>=◌}
+use Rattle.cif_reader.specs.Label.{Label, is_white, is_label, fields, label_of_fields, label_in}
+use Rattle.cif_reader.specs.Near.{is_dark, field_at, label_on, label_tail, label_by_fields, ◌>>=◌}
 
 pub all_digits : (digits : List ℕ) (r : Bool) → r ≡ true → r ≡ list_all is_ascii_digit digits → AllDigits 10 digits
 all_digits digits r all is = own.to digits (sym is ∙ all)

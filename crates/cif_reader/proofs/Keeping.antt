@@ -1,21 +1,18 @@
 -- What every file keeps, of commands without fault.
-use Rattle.std.proofs.Common.{◌≡◌, ℕ, zero, get_or, suc, ◌+◌, ◌*◌, ◌/◌, ◌<◌, ◌≤◌, Bool, true, false, ◌||◌, ◌&&◌, List, [], ◌∷◌, ◌++◌, map, length, refl, sym, ap, subst, ◌∙◌, arith}
-use Rattle.std.specs.Prelude.{ℤ, pos, negsuc, neg_ℤ, ◌+ℤ◌, ◌-ℤ◌, ◌*ℤ◌, ◌≤ℤ◌, if◌then◌else◌, nat_abs, flat_map, Option, Some, None, nat_lt}
+use Rattle.std.proofs.Common.{◌≡◌, ℕ, zero, get_or, suc, ◌*◌, ◌/◌, ◌<◌, ◌≤◌, Bool, true, false, ◌||◌, ◌&&◌, List, [], ◌∷◌, ◌++◌, map, length, refl, sym, ap, subst, ◌∙◌, arith}
+use Rattle.std.specs.Prelude.{ℤ, pos, negsuc, ◌+ℤ◌, ◌-ℤ◌, ◌*ℤ◌, ◌≤ℤ◌, if◌then◌else◌, flat_map, Some}
 use Rattle.std.specs.List.{list_any, list_all, All, AllByRecursion}
 use Rattle.std.specs.Ordering.{int_eq}
-use Rattle.std.proofs.lemmas.Bool.Decides.{nat_tests}
 use Rattle.std.proofs.lemmas.Int.{ints}
 use Rattle.std.proofs.lemmas.List.{map_push}
-use Rattle.std.proofs.Math.Nat.{div-le_of_le-mul, mul-div-le}
+use Rattle.std.proofs.Math.Nat.{mul-div-le}
 use Rattle.std.proofs.lemmas.Nat.{le-div}
 use Rattle.plane_geom.specs.declared.shapes.Point.{Point}
-use Rattle.plane_geom.specs.declared.shapes.Rect.{Rect}
 use Rattle.plane_geom.specs.declared.shapes.Shape.{Shape}
 use Rattle.plane_geom.specs.Bounds.{IsWithin, IsPointWithin, IsRectWithin}
-use Rattle.plane_geom.specs.Covering.{Figure, block, polygon as outlined, wire as drawn_along, figure_of, IsWellFormed, IsFigureWithin, IsRect, is_along, edges_from, outline, segments}
-use Rattle.cif_grammar.specs.declared.spelled.Spot.{Spot}
+use Rattle.plane_geom.specs.Covering.{Figure, figure_of, IsWellFormed, IsFigureWithin, IsRect, is_along, edges_from, outline, segments}
 use Rattle.cif_grammar.specs.Words.{limit}
-use Rattle.cif_grammar.specs.Grammar.{Points, Command, box, polygon, wire, layer, call, user, comment, start, finish}
+use Rattle.cif_grammar.specs.Grammar.{Command, box, polygon, wire, layer, call, user, comment, start, finish}
 use Rattle.cif_reader.specs.declared.measure.Scale.{Scale}
 use Rattle.cif_reader.specs.declared.measure.Corners.{Corners}
 use Rattle.cif_reader.specs.Measure.{is_far, scaled, scaled_point, scaled_rect, doubled, sides, corners, box_corners, is_upright, points_along, point_of}
@@ -85,9 +82,10 @@ box_within s r h =
 points_near : (s : Scale) (ps : List Point) → list_any (is_far s) (flat_map doubled ps) ≡ false → AllByRecursion (IsPointWithin limit) (map (scaled_point s) ps)
 points_near s [] h = tt
 points_near s (p ∷ ps) h =
-    let y = or_right (is_far s (pos 2 *ℤ p.x)) _ h in
-    (record { x = scaled_within s (pos 2 *ℤ p.x) (or_left (is_far s (pos 2 *ℤ p.x)) _ h); y = scaled_within s (pos 2 *ℤ p.y) (or_left (is_far s (pos 2 *ℤ p.y)) _ y) },
-     points_near s ps (or_right (is_far s (pos 2 *ℤ p.y)) _ y))
+    let y = or_right (is_far s (pos 2 *ℤ p.x)) _ h in (
+      record { x = scaled_within s (pos 2 *ℤ p.x) (or_left (is_far s (pos 2 *ℤ p.x)) _ h); y = scaled_within s (pos 2 *ℤ p.y) (or_left (is_far s (pos 2 *ℤ p.y)) _ y) },
+      points_near s ps (or_right (is_far s (pos 2 *ℤ p.y)) _ y),
+    )
 
 same_of : (z w : ℤ) → int_eq z w ≡ true → z ≡ w
 same_of z w h = grind (arith, ints)

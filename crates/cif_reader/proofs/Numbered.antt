@@ -1,6 +1,6 @@
 -- Symbols under their numbers.
-use Rattle.std.proofs.Common.{◌≡◌, ℕ, Bool, true, false, cond, ◌||◌, if◌then◌else◌, List, [], ◌∷◌, ◌++◌, map, refl, sym, ap, subst, ◌∙◌, arith}
-use Rattle.std.specs.Prelude.{Option, Some, None, find, is_some, nat_eq, ◌==◌}
+use Rattle.std.proofs.Common.{◌≡◌, ℕ, Bool, true, false, cond, ◌||◌, List, [], ◌∷◌, ◌++◌, refl, sym, ap, subst, ◌∙◌, arith}
+use Rattle.std.specs.Prelude.{Option, Some, find, is_some, nat_eq, ◌==◌}
 use Rattle.std.specs.List.{list_any, AllByRecursion}
 use Rattle.std.specs.Map.{lookup, values_of}
 use Rattle.std.proofs.lemmas.Bool.Decides.{nat_tests}
@@ -8,7 +8,7 @@ use Rattle.std.proofs.lemmas.List.{map_push}
 use Rattle.indexmap.specs.IndexMap.{insert_entry}
 use Rattle.cif_reader.specs.declared.file.Item.{Item}
 use Rattle.cif_reader.specs.declared.file.Symbol.{Symbol}
-use Rattle.cif_reader.specs.File.{Contents, IsFile, AreKept, AreAllKept, AreApart, AreNumbered, IsKept, has_number}
+use Rattle.cif_reader.specs.File.{IsFile, AreKept, AreAllKept, AreApart, AreNumbered, IsKept, has_number}
 use Rattle.cif_reader.proofs.Bools.{or_left, or_right}
 
 pub numbered_lookup : (n : ℕ) (es : List (ℕ × Symbol)) → AreNumbered es → lookup (nat_eq n) es ≡ find (has_number n) (values_of es)
@@ -45,9 +45,10 @@ any_push t (x ∷ xs) s h k = ap (λ b. b || list_any t (xs ++ s ∷ [])) (or_le
 
 apart_push : (xs : List Symbol) (s : Symbol) → AreApart xs → list_any (has_number s.number) xs ≡ false → AreApart (xs ++ s ∷ [])
 apart_push [] s h a = (refl, tt)
-apart_push (x ∷ xs) s h a =
-    (any_push (has_number x.number) xs s h.0 (same_turned s.number x.number (or_left (s.number == x.number) (list_any (has_number s.number) xs) a)),
-     apart_push xs s h.1 (or_right (s.number == x.number) (list_any (has_number s.number) xs) a))
+apart_push (x ∷ xs) s h a = (
+  any_push (has_number x.number) xs s h.0 (same_turned s.number x.number (or_left (s.number == x.number) (list_any (has_number s.number) xs) a)),
+  apart_push xs s h.1 (or_right (s.number == x.number) (list_any (has_number s.number) xs) a),
+)
 
 -- what a file keeps when a symbol is defined
 pub record Defined (before after : List (ℕ × Symbol)) (s : Symbol) (top : List Item) : Type 0 where

@@ -1,17 +1,17 @@
 -- Points one by one, and the path that they make.
-use Rattle.std.proofs.Common.{◌≡◌, ℕ, suc, zero, ◌+◌, ◌<◌, ◌≤◌, Bool, true, false, ◌||◌, ◌&&◌, List, [], ◌∷◌, ◌++◌, length, get_or, add-one, drop, take, map, refl, sym, ap, subst, ◌∙◌, arith, Option, if◌then◌else◌, cond}
+use Rattle.std.proofs.Common.{◌≡◌, ℕ, suc, zero, ◌+◌, ◌<◌, ◌≤◌, Bool, true, false, ◌||◌, ◌&&◌, List, [], ◌∷◌, ◌++◌, length, get_or, add-one, take, map, refl, sym, ap, subst, ◌∙◌, arith, Option, if◌then◌else◌}
 use Rattle.std.specs.Prelude.{ℤ, pos, ◌*ℤ◌, flat_map, is_some, Some, None}
 use Rattle.std.specs.List.{list_any, list_all}
 use Rattle.std.specs.Ordering.{int_eq}
 use Rattle.std.proofs.lemmas.Int.{ints}
 use Rattle.std.proofs.lemmas.List.{take_all}
 use Rattle.plane_geom.specs.declared.shapes.Point.{Point}
-use Rattle.plane_geom.specs.Covering.{is_along, edges_from, outline, segments}
+use Rattle.plane_geom.specs.Covering.{is_along, edges_from, segments}
 use Rattle.cif_grammar.specs.declared.spelled.Spot.{Spot}
 use Rattle.cif_reader.specs.declared.measure.Scale.{Scale}
 use Rattle.cif_reader.specs.Measure.{point_of, doubled, scaled_point, is_far, is_whole}
 use Rattle.cif_reader.specs.Near.{is_spot_far, is_spot_whole, end_along}
-use Rattle.cif_reader.proofs.Bools.{or_two, and_two, or_left, or_right, and_left, and_right}
+use Rattle.cif_reader.proofs.Bools.{or_two, and_two, or_left, or_right}
 
 -- ---- the measures of points
 

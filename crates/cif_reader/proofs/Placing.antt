@@ -1,7 +1,7 @@
 -- The place of a call: its turn, and its shift in a scale.
-use Rattle.std.proofs.Common.{◌≡◌, ℕ, suc, zero, ◌+◌, ◌*◌, ◌<◌, ◌≤◌, Bool, true, false, ◌&&◌, List, [], ◌∷◌, ◌++◌, map, refl, sym, ap, subst, ◌∙◌, arith}
-use Rattle.std.specs.Prelude.{ℤ, pos, negsuc, neg_ℤ, ◌+ℤ◌, ◌*ℤ◌, flat_map, Option, Some, None, nat_abs, ◌%◌, ◌/◌, int_lt, ◌==◌, if◌then◌else◌}
-use Rattle.std.specs.List.{list_any, list_all}
+use Rattle.std.proofs.Common.{◌≡◌, ℕ, suc, zero, ◌*◌, ◌<◌, true, false, ◌&&◌, List, [], ◌∷◌, refl, sym, ap, subst, ◌∙◌, arith}
+use Rattle.std.specs.Prelude.{ℤ, pos, negsuc, neg_ℤ, ◌+ℤ◌, ◌*ℤ◌, flat_map, Option, Some, None, ◌%◌, ◌/◌, int_lt, ◌==◌, if◌then◌else◌}
+use Rattle.std.specs.List.{list_all}
 use Rattle.std.proofs.Math.IntN.{pos-*ℤ-pos, negsuc-*ℤ-pos, *ℤ_comm, zero-*ℤ, suc_ℤ-*ℤ}
 use Rattle.std.proofs.Math.Nat.{mul-div_left}
 use Rattle.std.proofs.lemmas.Nat.{div-add-mod'}
@@ -10,15 +10,13 @@ use Rattle.std.proofs.Common.{eqb-true}
 use Rattle.std.proofs.lemmas.Int.{ints}
 use Rattle.plane_geom.specs.declared.shapes.Point.{Point}
 use Rattle.plane_geom.specs.declared.places.Place.{Place}
-use Rattle.plane_geom.specs.declared.places.Turn.{Turn}
-use Rattle.plane_geom.specs.Placement.{Step, shift, negate_x, negate_y, exchange, moved, moved_once, placed, IsPlaceOf}
+use Rattle.plane_geom.specs.Placement.{negate_x, negate_y, moved, placed, IsPlaceOf}
 use Rattle.plane_geom.proofs.Turning.{moved-append, plus}
-use Rattle.cif_grammar.specs.declared.spelled.Spot.{Spot}
 use Rattle.cif_grammar.specs.Grammar.{Transform, translate, mirror_x, mirror_y, rotate}
 use Rattle.cif_reader.specs.declared.facing.Facing.{Facing}
 use Rattle.cif_reader.specs.declared.facing.Facing.TheVariants.{East, North, West, South}
 use Rattle.cif_reader.specs.declared.measure.Scale.{Scale}
-use Rattle.cif_reader.specs.Measure.{point_of, facing, turns_to, doubled, is_whole, scaled, shifts_once, steps_once, steps_of, shift_of, origin}
+use Rattle.cif_reader.specs.Measure.{point_of, facing, turns_to, is_whole, scaled, shifts_once, steps_once, steps_of, shift_of, origin}
 use Rattle.cif_reader.specs.Near.{turns_once}
 use Rattle.cif_reader.proofs.Bools.{and_left, and_right}
 use Rattle.cif_reader.proofs.Transforming.{all_append}
@@ -207,7 +205,7 @@ pub call_place : (s : Scale) (ts : List Transform) (turn made : Place) (by : Pla
     → ((p : Point) → placed made p ≡ placed by (placed turn p)) → IsPlaceOf (steps_of (scaled s) ts) made
 call_place s ts turn made by some whole turns only dx dy both = record {
   moves = λ p.
-    both p ∙ only (placed turn p) ∙ ap (λ q. plus q (record { x = by.dx; y = by.dy })) (turns.moves p)
-    ∙ ap (plus (moved (flat_map turns_once ts) p)) ((λ i. record { x = dx i; y = dy i }) ∙ shift_scaled s ts some whole)
-    ∙ sym (steps_split (scaled s) ts p);
+      both p ∙ only (placed turn p) ∙ ap (λ q. plus q (record { x = by.dx; y = by.dy })) (turns.moves p)
+      ∙ ap (plus (moved (flat_map turns_once ts) p)) ((λ i. record { x = dx i; y = dy i }) ∙ shift_scaled s ts some whole)
+      ∙ sym (steps_split (scaled s) ts p);
 }

@@ -1,15 +1,14 @@
 -- How far a text is read.
-use Rattle.std.proofs.Common.{◌≡◌, ℕ, zero, suc, ◌+◌, ◌-◌, ◌<◌, ◌≤◌, ◌==◌, Bool, true, false, not, ◌&&◌, ◌||◌, if◌then◌else◌, List, [], ◌∷◌, ◌++◌, length, codes, refl, sym, ap, subst, ◌∙◌, arith, ◌⊎◌, inl, inr, eqb-true}
+use Rattle.std.proofs.Common.{◌≡◌, ℕ, suc, ◌-◌, ◌<◌, ◌≤◌, ◌==◌, Bool, true, false, not, ◌&&◌, if◌then◌else◌, List, [], ◌∷◌, ◌++◌, length, codes, refl, sym, ap, subst, ◌∙◌, arith, inl, inr, eqb-true}
 use Rattle.std.specs.Prelude.{Option, Some, None, is_some}
 use Rattle.std.specs.Option.{option_or, option_and_then}
 use Rattle.std.proofs.lemmas.List.{length-append}
-use Rattle.cif_grammar.specs.Words.{Takes}
-use Rattle.cif_grammar.specs.Grammar.{Command, Placed, is_inside, may_stand, Items, Spells, Longest, is_gap}
+use Rattle.cif_grammar.specs.Grammar.{Command, Placed, is_inside, may_stand, is_gap}
 use Rattle.cif_grammar.specs.Readers.{skip, command_at}
 use Rattle.cif_grammar.proofs.Walking.{walk, walk_more, walk_takes, stuck_none, stuck_barred, longest_here, command_shorter}
 use Rattle.cif_reader.specs.declared.refusal.CifRefusal.{CifRefusal}
 use Rattle.cif_reader.specs.declared.builder.Builder.{Builder}
-use Rattle.cif_reader.specs.Faults.{is_twice, first_fault, fault_of, end_fault, is_delete, FaultAt, FaultBehind, Refuses}
+use Rattle.cif_reader.specs.Faults.{is_twice, first_fault, fault_of, end_fault, is_delete, Refuses}
 use Rattle.cif_reader.specs.Reading.{Accepts}
 use Rattle.cif_reader.specs.Scope.{layer_behind, scale_behind, scale_in}
 use Rattle.cif_reader.specs.Built.{IsFine, IsBuilt, opening_of, may_stand_in, if_standing, standing_at}

@@ -1,11 +1,10 @@
 -- The numbers of a start, and a state with no open definition.
-use Rattle.std.proofs.Common.{◌≡◌, ℕ, ◌≤◌, Bool, false, List, [], ◌||◌, refl}
+use Rattle.std.proofs.Common.{◌≡◌, ◌≤◌, false, [], refl}
 use Rattle.std.specs.Prelude.{Option, Some, None}
 use Rattle.std.specs.List.{list_any}
 use Rattle.cif_grammar.specs.declared.spelled.Number.{Number}
 use Rattle.cif_grammar.specs.Words.{limit}
 use Rattle.cif_grammar.specs.Grammar.{start}
-use Rattle.cif_reader.specs.declared.file.Item.{Item}
 use Rattle.cif_reader.specs.declared.builder.Open.{Open}
 use Rattle.cif_reader.specs.Faults.{is_large, numbers}
 use Rattle.cif_reader.specs.Built.{opening_of, items_in}

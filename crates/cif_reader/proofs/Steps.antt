@@ -1,29 +1,20 @@
 -- What one command more changes.
-use Rattle.std.proofs.Common.{◌≡◌, ℕ, ◌+◌, ◌<◌, Bool, true, false, not, ◌||◌, ◌&&◌, if◌then◌else◌, List, [], ◌∷◌, ◌++◌, map, refl, sym, ap, subst, ◌∙◌, append-nil, arith, nat_lt}
-use Rattle.std.specs.Prelude.{Option, Some, None, is_some, ◌==◌, option_map, OnOk, Ok, Err, Result, find}
-use Rattle.std.specs.List.{list_any, list_all}
+use Rattle.std.proofs.Common.{◌≡◌, ℕ, Bool, true, false, not, ◌&&◌, if◌then◌else◌, List, [], ◌∷◌, ◌++◌, refl, sym, ap, ◌∙◌, append-nil}
+use Rattle.std.specs.Prelude.{Option, Some, None, is_some, option_map}
+use Rattle.std.specs.List.{list_all}
 use Rattle.std.specs.Option.{option_or}
-use Rattle.std.proofs.lemmas.List.Folds.{list_any-append}
-use Rattle.std.proofs.lemmas.Bool.Decides.{nat_tests}
-use Rattle.cif_grammar.specs.declared.spelled.Number.{Number}
-use Rattle.cif_grammar.specs.Words.{limit}
 use Rattle.cif_grammar.specs.Grammar.{Command, box, polygon, wire, layer, call, user, comment, start, finish, Placed, is_inside, may_stand}
 use Rattle.cif_reader.specs.declared.measure.Scale.{Scale}
-use Rattle.cif_reader.specs.declared.refusal.CifRefusal.{CifRefusal}
 use Rattle.cif_reader.specs.declared.file.Item.{Item}
 use Rattle.cif_reader.specs.declared.file.What.{What}
 use Rattle.cif_reader.specs.declared.file.Symbol.{Symbol}
-use Rattle.cif_reader.specs.declared.builder.Open.{Open}
 use Rattle.cif_reader.specs.declared.builder.Builder.{Builder}
-use Rattle.cif_reader.specs.Scope.{Opening, layer_behind, layer_around, open_behind, scale_behind, scale_in, scale_of}
+use Rattle.cif_reader.specs.Scope.{layer_behind, layer_around, open_behind}
 use Rattle.cif_reader.specs.Measure.{is_whole, gridded}
-use Rattle.cif_reader.specs.File.{AreKept, IsKept, has_number}
-use Rattle.cif_reader.specs.Reading.{Saying, Remark, IsSaid, AreSaid, AreDefined, Definition, definitions, definition_of, said_since, said_outside, said, remarks}
-use Rattle.cif_reader.specs.Faults.{starts, is_large, numbers, large_number, goes_far, has_many_points, is_manhattan, is_drawn, is_twice, has_zero_scale, is_off_grid, is_bad_label, fault_in, fault_of}
-use Rattle.cif_reader.specs.Built.{IsFine, IsSaidBy, IsSound, IsBuilt, IsClosed, opening_of, items_in, grown_in, grown_outside, opens, is_bare, may_stand_in}
-use Rattle.cif_reader.proofs.Bools.{or_left, or_right}
+use Rattle.cif_reader.specs.Reading.{Saying, Remark, IsSaid, AreSaid, AreDefined, Definition, definitions, said_since, said_outside, remarks}
+use Rattle.cif_reader.specs.Faults.{starts, is_large, numbers, goes_far, has_many_points, is_manhattan, is_drawn, has_zero_scale, is_off_grid, fault_in}
+use Rattle.cif_reader.specs.Built.{IsFine, IsSaidBy, IsBuilt, opening_of, is_bare, may_stand_in}
 use Rattle.cif_reader.proofs.Finding.{find_none}
-use Rattle.cif_reader.proofs.Numbered.{kept_push}
 
 -- ---- no fault
 

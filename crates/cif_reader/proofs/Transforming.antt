@@ -1,23 +1,20 @@
 -- The transformations of a call.
-use Rattle.std.proofs.Common.{◌≡◌, ℕ, suc, zero, ◌+◌, ◌*◌, ◌^◌, ◌<◌, ◌≤◌, Bool, true, false, ◌||◌, ◌&&◌, List, [], ◌∷◌, ◌++◌, length, get_or, drop, take, map, refl, sym, ap, subst, ◌∙◌, arith, add-one, append_assoc, append-nil}
-use Rattle.std.specs.Prelude.{ℤ, pos, neg_ℤ, ◌+ℤ◌, ◌*ℤ◌, flat_map, is_some, Some, None, nat_abs, ◌%◌, ◌/◌, int_lt}
+use Rattle.std.proofs.Common.{◌≡◌, ℕ, suc, zero, ◌+◌, ◌<◌, ◌≤◌, Bool, true, false, ◌||◌, ◌&&◌, List, [], ◌∷◌, ◌++◌, length, get_or, drop, take, map, refl, sym, ap, subst, ◌∙◌, arith, add-one, append_assoc, append-nil}
+use Rattle.std.specs.Prelude.{ℤ, flat_map}
 use Rattle.std.specs.List.{list_any, list_all}
 use Rattle.std.proofs.lemmas.List.{take_all, drop_all}
 use Rattle.std.proofs.Math.Seq.{drop-cons}
 use Rattle.cif_reader.specs.Faults.{is_large, of_transform}
 use Rattle.cif_reader.proofs.Bools.{or_left, or_right}
 use Rattle.std.proofs.lemmas.List.Folds.{list_all-map, list_any-append}
-use Rattle.std.proofs.lemmas.Int.{ints}
 use Rattle.plane_geom.specs.declared.shapes.Point.{Point}
 use Rattle.plane_geom.specs.declared.places.Place.{Place}
-use Rattle.plane_geom.specs.Bounds.{IsWithin}
-use Rattle.plane_geom.specs.Placement.{Step, shift, negate_x, negate_y, exchange, moved, moved_once, placed, IsPlaceOf}
+use Rattle.plane_geom.specs.Placement.{moved, placed, IsPlaceOf}
 use Rattle.plane_geom.proofs.Turning.{moved-append, IsPlaceOf-append}
 use Rattle.cif_grammar.specs.declared.spelled.Transformation.{Transformation}
-use Rattle.cif_grammar.specs.Grammar.{Transform, translate, mirror_x, mirror_y, rotate}
 use Rattle.cif_grammar.specs.Seen.{transform_of}
 use Rattle.cif_reader.specs.declared.measure.Scale.{Scale}
-use Rattle.cif_reader.specs.Measure.{point_of, doubled, is_far, is_whole, scaled, is_turn, has_turns, shifts_once, steps_once, steps_of, shift_of, origin}
+use Rattle.cif_reader.specs.Measure.{is_whole, is_turn, has_turns, shifts_once, steps_once, steps_of}
 use Rattle.cif_reader.specs.Near.{turns_once}
 
 pub turns_map : (ts : List Transformation) → list_all (λ t. is_turn (transform_of t)) ts ≡ has_turns (map transform_of ts)

@@ -1,16 +1,15 @@
 -- The state of the reader behind the commands that it has read.
-use Rattle.std.specs.Prelude.{◌≡◌, ℕ, ◌<◌, ◌≤◌, ◌==◌, ◌++◌, pos, Bool, true, false, not, ◌&&◌, ◌||◌, is_some, List, [], ◌∷◌, map, flat_map, Option, Some, None, if◌then◌else◌}
+use Rattle.std.specs.Prelude.{◌≡◌, ℕ, ◌<◌, ◌≤◌, ◌==◌, ◌++◌, pos, Bool, true, false, not, ◌||◌, is_some, List, [], ◌∷◌, map, Option, Some, None, if◌then◌else◌}
 use Rattle.std.specs.Option.{option_and_then}
 use Rattle.cif_grammar.specs.Readers.{command_at}
 use Rattle.std.specs.List.{list_any, list_all}
 use Rattle.plane_geom.specs.Covering.{Figure, block, polygon as outlined, wire as drawn_along}
-use Rattle.cif_grammar.specs.Grammar.{Command, box, polygon, wire, layer, call, user, comment, start, finish, Placed}
+use Rattle.cif_grammar.specs.Grammar.{Command, box, polygon, wire, layer, start, finish, Placed}
 use Rattle.cif_reader.specs.declared.measure.Scale.{Scale}
 use Rattle.cif_reader.specs.declared.file.Item.{Item}
 use Rattle.cif_reader.specs.declared.file.What.{What}
-use Rattle.cif_reader.specs.Measure.{is_far, is_whole, scaled, scaled_point, scaled_rect, box_corners, points_along, gridded, reached}
+use Rattle.cif_reader.specs.Measure.{is_whole, scaled, scaled_point, scaled_rect, box_corners, points_along, gridded}
 use Rattle.cif_reader.specs.Faults.{is_large, numbers, goes_far, is_manhattan, starts}
-use Rattle.cif_reader.specs.Label.{Label, label_in}
 use Rattle.cif_reader.specs.Reading.{Saying, IsSaid, on_layer, AreSaid, AreDefined, definitions, said_since, said_outside}
 use Rattle.cif_reader.specs.Scope.{Opening, layer_behind, layer_around, open_behind, scale_in}
 use Rattle.cif_reader.specs.File.{AreKept, has_number}

@@ -1,12 +1,12 @@
 -- Commands at fault, and the refusals of texts.
-use Rattle.std.specs.Prelude.{◌≡◌, ◌⊎◌, ℕ, ◌+◌, Bool, true, false, not, ◌&&◌, ◌||◌, ◌==◌, nat_lt, List, [], ◌∷◌, ◌++◌, length, drop, find, flat_map, Option, Some, None, option_map, is_some, is_none, if◌then◌else◌}
+use Rattle.std.specs.Prelude.{◌≡◌, ◌⊎◌, ℕ, Bool, true, false, not, ◌&&◌, ◌||◌, ◌==◌, nat_lt, List, [], ◌∷◌, ◌++◌, length, drop, find, flat_map, Option, Some, None, option_map, is_some, is_none, if◌then◌else◌}
 use Rattle.std.specs.List.{list_any, list_all, prefix_len}
 use Rattle.std.specs.Option.{option_or}
 use Rattle.plane_geom.specs.Covering.{is_along, outline, segments}
 use Rattle.cif_grammar.specs.declared.spelled.Number.{Number}
 use Rattle.cif_grammar.specs.declared.spelled.Spot.{Spot}
 use Rattle.cif_grammar.specs.Words.{limit, is_blank}
-use Rattle.cif_grammar.specs.Grammar.{Points, Transform, translate, mirror_x, mirror_y, rotate, Command, box, polygon, wire, layer, call, user, comment, start, finish, Placed, Items, Longest, is_inside}
+use Rattle.cif_grammar.specs.Grammar.{Points, Transform, translate, rotate, Command, box, polygon, wire, call, user, start, Placed, Items, Longest, is_inside}
 use Rattle.cif_reader.specs.declared.measure.Scale.{Scale}
 use Rattle.cif_reader.specs.declared.refusal.CifRefusal.{CifRefusal}
 use Rattle.cif_reader.specs.declared.refusal.CifRefusal.TheVariants.{Syntax, NumberTooLarge, Unsupported, NotManhattan, NoLayer, TwiceDefined, ZeroScale, OffGrid, BadLabel, TooManyPoints}
@@ -78,7 +78,7 @@ is_drawn (wire w p) = true
 is_drawn _ = false
 
 abbrev pub starts : ℕ → Placed → Bool
-starts number c = elim c.what [ | start n s ↦ number == n.value | _ ↦ false ]
+starts number c = elim c.what [ start n s ↦ number == n.value | _ ↦ false ]
 
 -- It defines a symbol that was defined before.
 abbrev pub is_twice : List Placed → Command → Bool
@@ -104,14 +104,14 @@ abbrev pub fault_in : Option (List ℕ) → Scale → Bool → Placed → Option
 fault_in current s twice c =
     option_or (option_map (λ n. NumberTooLarge n.at) (large_number c.what))
     (if goes_far s c.what then Some (NumberTooLarge c.at)
-     else if has_many_points c.what then Some (TooManyPoints c.at)
-     else if not (is_manhattan c.what) then Some (NotManhattan c.at)
-     else if is_drawn c.what && is_none current then Some (NoLayer c.at)
-     else if twice then Some (TwiceDefined c.at)
-     else if has_zero_scale c.what then Some (ZeroScale c.at)
-     else if is_off_grid s c.what then Some (OffGrid c.at)
-     else if is_bad_label c.what then Some (BadLabel c.at)
-     else None)
+    else if has_many_points c.what then Some (TooManyPoints c.at)
+    else if not (is_manhattan c.what) then Some (NotManhattan c.at)
+    else if is_drawn c.what && is_none current then Some (NoLayer c.at)
+    else if twice then Some (TwiceDefined c.at)
+    else if has_zero_scale c.what then Some (ZeroScale c.at)
+    else if is_off_grid s c.what then Some (OffGrid c.at)
+    else if is_bad_label c.what then Some (BadLabel c.at)
+    else None)
 
 abbrev pub fault_of : List Placed → Placed → Option CifRefusal
 fault_of before c = fault_in (layer_behind before) (scale_behind before) (is_twice before c.what) c

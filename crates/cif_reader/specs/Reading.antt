@@ -1,9 +1,9 @@
 -- The file that commands without fault say, in mask units.
-use Rattle.std.specs.Prelude.{◌≡◌, ◌⊎◌, ℕ, pos, Bool, true, false, List, [], ◌∷◌, ◌++◌, map, Option, Some, None, if◌then◌else◌}
+use Rattle.std.specs.Prelude.{◌≡◌, ℕ, pos, List, [], ◌∷◌, ◌++◌, map, Option, Some, None, if◌then◌else◌}
 use Rattle.plane_geom.specs.declared.shapes.Point.{Point}
 use Rattle.plane_geom.specs.Covering.{Figure, block, polygon as outlined, wire as drawn_along, figure_of}
 use Rattle.plane_geom.specs.Placement.{Step, IsPlaceOf}
-use Rattle.cif_grammar.specs.Grammar.{Points, Command, box, polygon, wire, layer, call, user, comment, start, finish, Placed, Spells, is_inside}
+use Rattle.cif_grammar.specs.Grammar.{Command, box, polygon, wire, call, user, start, finish, Placed, Spells, is_inside}
 use Rattle.cif_reader.specs.declared.measure.Scale.{Scale}
 use Rattle.cif_reader.specs.declared.file.Item.{Item}
 use Rattle.cif_reader.specs.declared.file.Symbol.{Symbol}
@@ -54,7 +54,7 @@ remarks before c = map (λ what. record { at = c.at; what = what }) (said (layer
 -- what was said since the last start or finish
 abbrev pub said_since : List Placed → List Remark
 said_since [] = []
-said_since (c ∷ before) = elim c.what [ | start n s ↦ [] | finish ↦ [] | _ ↦ said_since before ++ remarks before c ]
+said_since (c ∷ before) = elim c.what [ start n s ↦ [] | finish ↦ [] | _ ↦ said_since before ++ remarks before c ]
 
 -- what was said outside of definitions
 abbrev pub said_outside : List Placed → List Remark
@@ -74,7 +74,7 @@ definition_of (Some o) inside = record { number = o.symbol; at = o.at; remarks =
 -- the definitions in order: each finish ends one
 abbrev pub definitions : List Placed → List Definition
 definitions [] = []
-definitions (c ∷ before) = elim c.what [ | finish ↦ definitions before ++ definition_of (open_behind before) (said_since before) | _ ↦ definitions before ]
+definitions (c ∷ before) = elim c.what [ finish ↦ definitions before ++ definition_of (open_behind before) (said_since before) | _ ↦ definitions before ]
 
 -- ---- the file
 

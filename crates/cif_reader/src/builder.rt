@@ -307,7 +307,12 @@ impl Builder {
     }
 
     /// Adds a command without fault.
-    pub(crate) fn add(&mut self, alloc: Global, pos: u64, command: Command<'_>) -> Result<(), AllocError>
+    pub(crate) fn add(
+        &mut self,
+        alloc: Global,
+        pos: u64,
+        command: Command<'_>,
+    ) -> Result<(), AllocError>
         requires sound { IsSound self.old }
         requires fine { IsFine (scale_in (opening_of self.old.open)) (seen command) }
         ensures { (before : List Placed) → IsBuilt before self.old → may_stand before (seen command.entry) ≡ true → fault_of before (record { at = pos; what = seen command.entry }) ≡ None → OnOk result (IsBuilt (record { at = pos; what = seen command.entry } ∷ before) self.new) }
@@ -343,6 +348,12 @@ impl Builder {
         requires { IsSound self.now }
         ensures { (before : List Placed) → IsBuilt before self.now → result ≡ fault_of before (record { at = pos; what = seen command.now }) }
     {
-        judge(&self.layer, self.scale(), self.is_twice(command), pos, command)
+        judge(
+            &self.layer,
+            self.scale(),
+            self.is_twice(command),
+            pos,
+            command,
+        )
     }
 }

@@ -125,13 +125,31 @@ fn turn_once(transformation: Transformation) -> Turn
 {
     match transformation {
         Transformation::Translate(_) => STILL,
-        Transformation::MirrorX => Turn { neg_x: true, ..STILL },
-        Transformation::MirrorY => Turn { neg_y: true, ..STILL },
+        Transformation::MirrorX => Turn {
+            neg_x: true,
+            ..STILL
+        },
+        Transformation::MirrorY => Turn {
+            neg_y: true,
+            ..STILL
+        },
         Transformation::Rotate(direction) => match facing_of(direction) {
             None | Some(Facing::East) => STILL,
-            Some(Facing::North) => Turn { swap: true, neg_x: true, neg_y: false },
-            Some(Facing::West) => Turn { swap: false, neg_x: true, neg_y: true },
-            Some(Facing::South) => Turn { swap: true, neg_x: false, neg_y: true },
+            Some(Facing::North) => Turn {
+                swap: true,
+                neg_x: true,
+                neg_y: false,
+            },
+            Some(Facing::West) => Turn {
+                swap: false,
+                neg_x: true,
+                neg_y: true,
+            },
+            Some(Facing::South) => Turn {
+                swap: true,
+                neg_x: false,
+                neg_y: true,
+            },
         },
     }
 }
@@ -141,7 +159,11 @@ fn turned(transformations: &[Transformation]) -> Place
     ensures place { IsPlaceOf (flat_map turns_once (map transform_of transformations.now)) result }
     ensures still { IsShiftWithin 0 result }
 {
-    let mut place = Place { turn: STILL, dx: 0, dy: 0 };
+    let mut place = Place {
+        turn: STILL,
+        dx: 0,
+        dy: 0,
+    };
     for transformation in transformations {
         let turn = turn_once(*transformation);
         place = place.then(Place { turn, dx: 0, dy: 0 });

@@ -17,9 +17,15 @@ pub struct Item {
 #[derive(Debug, Drop)]
 pub enum What {
     /// A shape on a layer.
-    Draw { layer: Short, shape: Shape },
+    Draw {
+        layer: Short,
+        shape: Shape,
+    },
     /// A call of the symbol of that number, placed.
-    Call { symbol: u32, place: Place },
+    Call {
+        symbol: u32,
+        place: Place,
+    },
     /// A label at a point, and the layer that it names, if it names one.
     Mark {
         name: Label,

@@ -86,7 +86,12 @@ fn large_in_transformations(transformations: &[Transformation]) -> Option<Number
 }
 
 /// The first number over the limit of a box.
-fn large_in_box(length: Number, width: Number, centre: Spot, direction: Option<Spot>) -> Option<Number>
+fn large_in_box(
+    length: Number,
+    width: Number,
+    centre: Spot,
+    direction: Option<Spot>,
+) -> Option<Number>
     ensures { result ≡ large_number_lem (seen (Command.Box length width centre direction)) }
 {
     if let Some(number) = large(length) {
@@ -211,7 +216,8 @@ fn goes_far(scale: Scale, command: &Command<'_>) -> bool
             scale.is_far(i128::from(width.value)) || is_far_path(scale, path)
         }
         Command::Call {
-            transformations, ..
+            transformations,
+            ..
         } => is_far_call(scale, transformations),
         Command::User(text) => is_far_label(scale, text),
         _ => false,
@@ -240,7 +246,8 @@ fn is_manhattan(command: &Command<'_>) -> bool
         Command::Polygon(path) => is_outline_along(path),
         Command::Wire { path, .. } => is_line_along(path),
         Command::Call {
-            transformations, ..
+            transformations,
+            ..
         } => has_turns(transformations),
         _ => true,
     }
@@ -297,7 +304,8 @@ fn is_on_grid(scale: Scale, command: &Command<'_>) -> bool
             scale.is_whole(i128::from(width.value)) && is_whole_path(scale, path)
         }
         Command::Call {
-            transformations, ..
+            transformations,
+            ..
         } => are_whole_shifts(scale, transformations),
         Command::User(text) => is_whole_label(scale, text),
         _ => true,

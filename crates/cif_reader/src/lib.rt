@@ -11,7 +11,6 @@ mod builder;
 mod calls;
 mod facing;
 mod file;
-
 mod judge;
 mod label;
 mod laws;

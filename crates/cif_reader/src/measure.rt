@@ -242,12 +242,7 @@ fn corners_round(across: u64, up: u64, centre: Spot) -> Corners
 }
 
 /// The corners of a box, so long in its direction and so wide.
-pub(crate) fn box_corners(
-    length: u64,
-    width: u64,
-    centre: Spot,
-    direction: Option<Spot>,
-) -> Corners
+pub(crate) fn box_corners(length: u64, width: u64, centre: Spot, direction: Option<Spot>) -> Corners
     ensures value { result ≡ box_corners_lem length width centre direction }
     ensures near { AreNear result }
 {

@@ -94,7 +94,11 @@ pub(crate) fn is_line_along(path: &Path) -> bool
 }
 
 /// The points in mask units.
-pub(crate) fn scaled_path(alloc: Global, scale: Scale, path: &Path) -> Result<Vec<Point>, AllocError>
+pub(crate) fn scaled_path(
+    alloc: Global,
+    scale: Scale,
+    path: &Path,
+) -> Result<Vec<Point>, AllocError>
     requires some { 0 < scale.b }
     requires not_far { list_any (is_far_lem scale) (flat_map doubled (points_along (points_of path.now))) ≡ false }
     ensures value { IfOk result (λ v. v.items ≡ map (scaled_point_lem scale) (points_along (points_of path.now))) }

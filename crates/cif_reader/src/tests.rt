@@ -20,9 +20,15 @@ fn refusal_of(alloc: Global, text: &[u8]) -> Option<CifRefusal> {
 fn refuses_the_first_fault_at_its_place(rt: HostRuntime) {
     let alloc = rt.alloc();
     let rows = [
-        ("L CMF; R 10 0 0; E", CifRefusal::Unsupported(7, Feature::Round)),
+        (
+            "L CMF; R 10 0 0; E",
+            CifRefusal::Unsupported(7, Feature::Round),
+        ),
         ("DD 1; E", CifRefusal::Unsupported(0, Feature::DefDelete)),
-        ("Delete Def 1; E", CifRefusal::Unsupported(0, Feature::DefDelete)),
+        (
+            "Delete Def 1; E",
+            CifRefusal::Unsupported(0, Feature::DefDelete),
+        ),
         ("L CMF; P 0 0 10 0 10 10; E", CifRefusal::NotManhattan(7)),
         ("L CMF; W 2 0 0 5 5; E", CifRefusal::NotManhattan(7)),
         ("L CMF; B 2 2 0 0 1 1; E", CifRefusal::NotManhattan(7)),
@@ -31,7 +37,10 @@ fn refuses_the_first_fault_at_its_place(rt: HostRuntime) {
         ("L CMF; B 10 10 5 5;", CifRefusal::Syntax(19)),
         ("", CifRefusal::Syntax(0)),
         ("  ", CifRefusal::Syntax(2)),
-        ("DS 1 2; L CMF; B 10 10 5 5; DF; C 1; E", CifRefusal::Syntax(0)),
+        (
+            "DS 1 2; L CMF; B 10 10 5 5; DF; C 1; E",
+            CifRefusal::Syntax(0),
+        ),
         ("DS 1; E", CifRefusal::Syntax(6)),
         ("DS 1; DS 2; DF; E", CifRefusal::Syntax(6)),
         ("DF; E", CifRefusal::Syntax(0)),
@@ -40,14 +49,26 @@ fn refuses_the_first_fault_at_its_place(rt: HostRuntime) {
         ("B 10 10 5 5; E", CifRefusal::NoLayer(0)),
         ("DS 1; L CMF; DF; B 2 2 1 1; E", CifRefusal::NoLayer(17)),
         ("L CMF; DS 1; B 2 2 1 1; DF; E", CifRefusal::NoLayer(13)),
-        ("L CMF; B 2147483648 2 0 0; E", CifRefusal::NumberTooLarge(9)),
-        ("L CMF; B 2 2 -00999999999999999999999999 0; E", CifRefusal::NumberTooLarge(14)),
-        ("L CMF; B 2 2 1073741823 0; E", CifRefusal::NumberTooLarge(7)),
+        (
+            "L CMF; B 2147483648 2 0 0; E",
+            CifRefusal::NumberTooLarge(9),
+        ),
+        (
+            "L CMF; B 2 2 -00999999999999999999999999 0; E",
+            CifRefusal::NumberTooLarge(14),
+        ),
+        (
+            "L CMF; B 2 2 1073741823 0; E",
+            CifRefusal::NumberTooLarge(7),
+        ),
         ("C 1 T 1073741824 0; E", CifRefusal::NumberTooLarge(0)),
         ("DS 1; DF; DS 1; DF; E", CifRefusal::TwiceDefined(10)),
         ("DS 1 0 1; DF; E", CifRefusal::ZeroScale(0)),
         ("DS 1 1 0; DF; E", CifRefusal::ZeroScale(0)),
-        ("DS 1 1 2; L CMF; B 3 4 0 0; DF; C 1; E", CifRefusal::OffGrid(17)),
+        (
+            "DS 1 1 2; L CMF; B 3 4 0 0; DF; C 1; E",
+            CifRefusal::OffGrid(17),
+        ),
         ("DS 1 1 4; C 2 T 1 0 T 1 0; DF; E", CifRefusal::OffGrid(10)),
         ("94; E", CifRefusal::BadLabel(0)),
         ("94 #1 0 0; E", CifRefusal::BadLabel(0)),
@@ -57,7 +78,10 @@ fn refuses_the_first_fault_at_its_place(rt: HostRuntime) {
         ("94 Vdd 0 0", CifRefusal::Syntax(0)),
     ];
     for (text, refusal) in rows {
-        assert!(rt; refusal_of(alloc, text.as_bytes()) == Some(refusal), "{text}");
+        assert!(rt;
+            refusal_of(alloc, text.as_bytes()) == Some(refusal),
+            "{text}"
+        );
     }
 }
 
@@ -117,17 +141,24 @@ fn scales_boxes(rt: HostRuntime) -> Result<(), Fail> {
 #[test]
 fn keeps_symbols_calls_and_labels(rt: HostRuntime) -> Result<(), Fail> {
     let alloc = rt.alloc();
-    let file = read(alloc, b"DS 5 25 2; 94 A 2 -4 CMF; DF; C 5 T 10 0 R 0 1 T 0 -3; E")?;
+    let file = read(
+        alloc,
+        b"DS 5 25 2; 94 A 2 -4 CMF; DF; C 5 T 10 0 R 0 1 T 0 -3; E",
+    )?;
     assert_eq!(rt; file.symbol_count(), 1);
     assert!(rt; file.symbol(4).is_none());
     assert!(rt; file.symbol_at(1).is_none());
     let symbol = file.symbol(5).ok_or("no symbol")?;
     assert!(rt; symbol.pos == 0 && symbol.items.len() == 1);
-    let What::Mark { name, at, layer } = &symbol.items[0].what else {
+    let marked = symbol.items.first().ok_or("no item")?;
+    let What::Mark { name, at, layer } = &marked.what else {
         return Err("no label".into());
     };
-    assert!(rt; name.as_bytes() == b"A".as_slice() && *at == Point { x: 50, y: -100 } && layer.is_some());
-    let What::Call { symbol, place } = &file.top()[0].what else {
+    assert!(rt;
+        name.as_bytes() == b"A".as_slice() && *at == Point { x: 50, y: -100 } && layer.is_some()
+    );
+    let called = file.top().first().ok_or("no item")?;
+    let What::Call { symbol, place } = &called.what else {
         return Err("no call".into());
     };
     let left = Turn {

@@ -1,5 +1,4 @@
 use Rattle.std.proofs.Common.{rules, refl, arith, ◌∙◌, ap, map, false, FitsSigned, w64, to_z, of_z}
-use Rattle.std.specs.Prelude.{pos}
 use Rattle.std.specs.Int.{w128}
 use Rattle.std.proofs.lemmas.Int.{ints, to_z-of_z}
 use Rattle.cif_grammar.specs.Words.{limit}

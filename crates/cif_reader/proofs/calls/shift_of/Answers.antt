@@ -1,7 +1,7 @@
 use Rattle.std.proofs.Common.{rules, arith, FitsSigned, ◌*◌, ◌^◌, ◌∙◌}
 use Rattle.std.specs.Int.{w128}
 use Rattle.std.proofs.lemmas.Int.{ints, to_z-of_z}
-use Rattle.cif_reader.proofs.Transforming.{one_small, shift_step, shift_end}
+use Rattle.cif_reader.proofs.Transforming.{one_small, shift_step}
 use Rattle.cif_reader.proofs.calls.shift_of.Goals as goal
 
 pub moved_once-requires-clause-small : goal.moved_once-requires-clause-small

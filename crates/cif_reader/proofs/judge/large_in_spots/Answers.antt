@@ -1,7 +1,6 @@
-use Rattle.std.proofs.Common.{◌∙◌, sym, ap}
-use Rattle.std.specs.Prelude.{find}
+use Rattle.std.proofs.Common.{◌∙◌, sym}
 use Rattle.cif_reader.specs.Faults.{is_large, of_spot}
-use Rattle.cif_reader.proofs.Finding.{found_here, not_here, found_nowhere, flat_map_map}
+use Rattle.cif_reader.proofs.Finding.{found_here, not_here, found_nowhere}
 use Rattle.cif_reader.proofs.judge.large_in_spots.Goals as goal
 
 pub returns-in-Some : goal.returns-in-Some

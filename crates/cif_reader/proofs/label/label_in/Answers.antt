@@ -1,4 +1,3 @@
-use Rattle.std.proofs.Common.{◌∙◌, sym, ap}
 use Rattle.cif_reader.proofs.Fields.{labelled}
 use Rattle.cif_reader.proofs.label.label_in.Goals as goal
 

@@ -1,4 +1,3 @@
-use Rattle.std.proofs.Common.{◌∙◌, sym, ap}
 use Rattle.cif_reader.proofs.Fields.{all_digits}
 use Rattle.cif_reader.proofs.label.size_of.Goals as goal
 

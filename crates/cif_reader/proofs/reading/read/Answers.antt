@@ -1,4 +1,4 @@
-use Rattle.std.proofs.Common.{◌∙◌, sym, ap, refl, inr}
+use Rattle.std.proofs.Common.{◌∙◌, sym, inr}
 use Rattle.cif_grammar.specs.Seen.{seen}
 use Rattle.cif_reader.proofs.Reaching.{rest_within, fault_here, fine_here, gets_shorter, goes_on, stands_may, fault_behind, accepted_here}
 use Rattle.cif_reader.proofs.reading.read.Goals as goal
@@ -9,12 +9,12 @@ overflow_sub-pos c = rest_within c.args.bytes.now c.loop-builder.rest.now c.loop
 pub returns-in-Some-judge-clause-refused : goal.returns-in-Some-judge-clause-refused
 returns-in-Some-judge-clause-refused c =
     inr (fault_here c.args.bytes.now c.loop-builder.rest.now c.loop-builder.builder (seen c.in-Some.command) c.in-Some.next.now c.in-Some-judge.fault c.loop-builder.invariant
-      (sym (rw c.in-Some.is at c.in_ok-command.ensures)) (sym (c.judge.ensures c.loop-builder.invariant.commands c.loop-builder.invariant.built) ∙ c.in-Some-judge.is))
+    (sym (rw c.in-Some.is at c.in_ok-command.ensures)) (sym (c.judge.ensures c.loop-builder.invariant.commands c.loop-builder.invariant.built) ∙ c.in-Some-judge.is))
 
 pub add-requires-clause-fine : goal.add-requires-clause-fine
 add-requires-clause-fine c =
     fine_here c.args.bytes.now c.loop-builder.rest.now c.loop-builder.builder (seen c.in-Some.command) c.loop-builder.invariant
-      (sym (c.judge.ensures c.loop-builder.invariant.commands c.loop-builder.invariant.built) ∙ c.in_default-judge.is)
+    (sym (c.judge.ensures c.loop-builder.invariant.commands c.loop-builder.invariant.built) ∙ c.in_default-judge.is)
 
 pub loop-builder-smaller : goal.loop-builder-smaller
 loop-builder-smaller c =
@@ -26,7 +26,7 @@ loop-builder-preserved c =
     let stands = sym (rw c.in-Some.is at c.in_ok-command.ensures) in
     let fine = sym (c.judge.ensures r.commands r.built) ∙ c.in_default-judge.is in
     goes_on c.args.bytes.now c.loop-builder.rest.now c.loop-builder.builder _ (seen c.in-Some.command) c.in-Some.next.now r stands fine
-      (c.in_ok-add.ensures r.commands r.built (stands_may c.args.bytes.now c.loop-builder.rest.now c.loop-builder.builder (seen c.in-Some.command) c.in-Some.next.now r stands) fine)
+    (c.in_ok-add.ensures r.commands r.built (stands_may c.args.bytes.now c.loop-builder.rest.now c.loop-builder.builder (seen c.in-Some.command) c.in-Some.next.now r stands) fine)
 
 pub overflow_sub-pos-2 : goal.overflow_sub-pos-2
 overflow_sub-pos-2 c = rest_within c.args.bytes.now c.loop-builder.rest.now c.loop-builder.builder c.loop-builder.invariant
@@ -34,7 +34,7 @@ overflow_sub-pos-2 c = rest_within c.args.bytes.now c.loop-builder.rest.now c.lo
 pub returns-in-Some-end_fault-clause-refused : goal.returns-in-Some-end_fault-clause-refused
 returns-in-Some-end_fault-clause-refused c =
     inr (fault_behind c.args.bytes.now c.loop-builder.rest.now c.loop-builder.builder c.in-Some-end_fault.fault c.loop-builder.invariant
-      (sym (rw c.in_default.is at c.in_ok-command.ensures)) (sym (rw c.is_inside.ensures at c.end_fault.ensures) ∙ c.in-Some-end_fault.is))
+    (sym (rw c.in_default.is at c.in_ok-command.ensures)) (sym (rw c.is_inside.ensures at c.end_fault.ensures) ∙ c.in-Some-end_fault.is))
 
 pub returns-in-None-clause-accepted : goal.returns-in-None-clause-accepted
 returns-in-None-clause-accepted c =

@@ -1,4 +1,4 @@
-use Rattle.std.proofs.Common.{◌∙◌, sym, ap, refl, subst}
+use Rattle.std.proofs.Common.{sym, ap, refl}
 use Rattle.cif_reader.specs.Built.{opening_of}
 use Rattle.cif_reader.proofs.Closing.{on_ok, closed_is}
 use Rattle.cif_reader.proofs.builder.Builder.finish.Goals as goal

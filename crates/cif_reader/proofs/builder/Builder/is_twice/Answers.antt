@@ -1,4 +1,4 @@
-use Rattle.std.proofs.Common.{◌∙◌, sym, ap, refl, arith}
+use Rattle.std.proofs.Common.{arith}
 use Rattle.cif_grammar.specs.Words.{limit}
 use Rattle.cif_reader.specs.Faults.{is_large, numbers}
 use Rattle.cif_grammar.specs.Grammar.{start}

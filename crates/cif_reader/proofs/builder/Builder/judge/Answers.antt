@@ -1,4 +1,4 @@
-use Rattle.std.proofs.Common.{◌∙◌, sym, ap, refl}
+use Rattle.std.proofs.Common.{◌∙◌}
 use Rattle.cif_grammar.specs.Seen.{seen}
 use Rattle.cif_reader.proofs.Building.{judged}
 use Rattle.cif_reader.proofs.builder.Builder.judge.Goals as goal

@@ -1,4 +1,4 @@
-use Rattle.std.proofs.Common.{◌∙◌, sym, ap, refl}
+use Rattle.std.proofs.Common.{refl}
 use Rattle.cif_grammar.specs.Seen.{seen}
 use Rattle.cif_reader.proofs.Building.{nothing_built, item_built, on_ok4}
 use Rattle.cif_reader.proofs.builder.Builder.say.Goals as goal

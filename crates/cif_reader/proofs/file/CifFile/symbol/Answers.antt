@@ -1,4 +1,4 @@
-use Rattle.std.proofs.Common.{◌∙◌, ap, sym}
+use Rattle.std.proofs.Common.{◌∙◌, ap}
 use Rattle.std.specs.Prelude.{find}
 use Rattle.cif_reader.specs.File.{Contents, has_number}
 use Rattle.cif_reader.proofs.Numbered.{numbered_lookup}

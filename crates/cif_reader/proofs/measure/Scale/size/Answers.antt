@@ -1,5 +1,5 @@
 use Rattle.std.specs.Int.{w128}
-use Rattle.std.proofs.Common.{rules, ◌≡◌, ◌*◌, ◌/◌, ◌≤◌, arith, FitsSigned}
+use Rattle.std.proofs.Common.{rules, arith, FitsSigned}
 use Rattle.std.proofs.lemmas.Int.{to_z-of_z}
 use Rattle.cif_grammar.specs.Words.{limit}
 use Rattle.cif_reader.proofs.Measures.{quotient_small}

@@ -1,5 +1,5 @@
 -- What a line adds to the map.
-use Rattle.std.proofs.Common.{◌≡◌, ℕ, zero, suc, ◌+◌, ◌-◌, ◌<◌, ◌≤◌, Bool, true, false, cond, if◌then◌else◌, not, ◌&&◌, ◌||◌, List, [], ◌∷◌, ◌++◌, length, Option, Some, None, option_map, refl, sym, ap, ◌∙◌, subst, arith, ◌==◌, append_assoc, map, nat_lt, MatchOption, Result, Ok, Err, IfOk}
+use Rattle.std.proofs.Common.{◌≡◌, ℕ, suc, ◌+◌, ◌≤◌, Bool, true, false, cond, if◌then◌else◌, not, ◌&&◌, ◌||◌, List, [], ◌∷◌, ◌++◌, length, Option, Some, None, option_map, refl, sym, ap, ◌∙◌, subst, arith, append_assoc, map, nat_lt, MatchOption, Result, Ok, Err, IfOk}
 use Rattle.std.specs.List.{list_any, list_all, position_or_len}
 use Rattle.std.specs.Prelude.{Vec}
 use Rattle.std.specs.Global.{Global}
@@ -8,10 +8,9 @@ use Rattle.std.proofs.lemmas.Bool.{lt-ltb, le-ltb, ltb-true, ltb-false}
 use Rattle.layer_map.specs.declared.map.WireId.{WireId}
 use Rattle.layer_map.specs.declared.map.WireLine.{WireLine}
 use Rattle.layer_map.specs.declared.map.LabelLine.{LabelLine}
-use Rattle.layer_map.specs.Names.{is_among, are_distinct}
-use Rattle.layer_map.specs.Plan.{Wire, Cut, Fet, LabelWires, Plan, number_of, AreNumbers, IsKeptCut, IsKeptFet, IsKept}
+use Rattle.layer_map.specs.Names.{is_among}
+use Rattle.layer_map.specs.Plan.{Wire, LabelWires, number_of}
 use Rattle.layer_map.specs.Views.{wire_seen, label_seen, numbers_seen}
-use Rattle.layer_map.specs.Truth.{is_unbounded}
 use Rattle.layer_map.specs.Adding.{numbers_at}
 use Rattle.layer_map.specs.Readers.{first_of}
 use Rattle.layer_map.proofs.Parsing.{first_is}

@@ -1,25 +1,23 @@
 -- The first fault of a line.
-use Rattle.std.proofs.Common.{◌≡◌, ℕ, zero, suc, ◌+◌, ◌<◌, ◌≤◌, Bool, true, false, if◌then◌else◌, not, ◌&&◌, ◌||◌, List, [], ◌∷◌, ◌++◌, length, Option, Some, None, refl, sym, ap, ◌∙◌, subst, arith, map, nat_lt}
-use Rattle.std.specs.List.{list_any, list_all, AllByRecursion, position_or_len}
+use Rattle.std.proofs.Common.{◌≡◌, ℕ, ◌<◌, ◌≤◌, Bool, true, false, if◌then◌else◌, not, ◌||◌, List, [], ◌∷◌, ◌++◌, length, Option, Some, None, refl, sym, ap, ◌∙◌, subst, arith, map}
+use Rattle.std.specs.List.{list_all, AllByRecursion}
 use Rattle.std.specs.Str.{bytes_eq}
-use Rattle.std.proofs.lemmas.Bool.{lt-ltb, le-ltb, ltb-true, and_parts, and_from, not-true}
-use Rattle.std.proofs.lemmas.List.{length-append, append-nil}
+use Rattle.std.proofs.lemmas.Bool.{ltb-true, and_parts, and_from, not-true}
+use Rattle.std.proofs.lemmas.List.{length-append}
 use Rattle.std.proofs.lemmas.Slice.Eq.{bytes_eq-Decides}
 use Rattle.layer_map.specs.declared.refusal.MapRefusal.{MapRefusal}
 use Rattle.layer_map.specs.declared.refusal.MapRefusal.TheVariants.{UnknownWire, Unbounded, TwiceNamed, TooMany}
-use Rattle.layer_map.specs.declared.refusal.Side.TheVariants.{High, Low}
 use Rattle.layer_map.specs.Names.{is_among, are_distinct}
-use Rattle.layer_map.specs.Grammar.{Sum, Statement, wire, cut, fet, label, supply}
-use Rattle.layer_map.specs.Truth.{is_unbounded, means, formula_of}
+use Rattle.layer_map.specs.Grammar.{Statement}
+use Rattle.layer_map.specs.Truth.{is_unbounded, formula_of}
 use Rattle.layer_map.specs.Plan.{Wire, Cut, Fet, LabelWires, Plan, number_of, AreNumbers, IsKeptCut, IsKeptFet, IsKept}
-use Rattle.layer_map.specs.Faults.{passes_limit, uses_unknown, is_twice, has_unbounded, fault_in, is_large}
+use Rattle.layer_map.specs.Faults.{passes_limit, uses_unknown, is_twice, has_unbounded, fault_in}
 use Rattle.layer_map.specs.declared.map.WireLine.{WireLine}
 use Rattle.layer_map.specs.declared.map.CutLine.{CutLine}
 use Rattle.layer_map.specs.declared.map.FetLine.{FetLine}
 use Rattle.layer_map.specs.declared.map.LabelLine.{LabelLine}
 use Rattle.layer_map.specs.Views.{wire_seen, cut_seen, fet_seen, label_seen}
 use Rattle.layer_map.specs.Readers.{is_nothing}
-use Rattle.layer_map.specs.Steps.{Adds, with_line}
 use Rattle.layer_map.proofs.AddingLemmas.{any_by_place, any_map}
 
 fault_of : ℕ → Bool → Bool → Bool → Bool → Option MapRefusal

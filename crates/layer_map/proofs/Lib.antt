@@ -7,3 +7,4 @@ pub mod Steps
 pub mod TreeLemmas
 pub mod Walk
 pub mod WordLemmas
+pub mod Worked

@@ -1,13 +1,13 @@
 -- Expressions: what is read is spelled so, and what is spelled so is read.
-use Rattle.std.proofs.Common.{◌≡◌, ℕ, zero, suc, ◌+◌, ◌-◌, ◌<◌, ◌≤◌, Bool, true, false, cond, if◌then◌else◌, not, ◌&&◌, ◌||◌, List, [], ◌∷◌, ◌++◌, length, codes, Option, Some, None, option_map, refl, sym, ap, ◌∙◌, subst, arith, ◌==◌, append_assoc}
+use Rattle.std.proofs.Common.{◌≡◌, ℕ, ◌+◌, ◌-◌, ◌<◌, ◌≤◌, Bool, true, false, if◌then◌else◌, not, ◌&&◌, ◌||◌, List, [], ◌∷◌, ◌++◌, length, codes, Option, Some, None, option_map, refl, sym, ap, ◌∙◌, subst, arith, ◌==◌, append_assoc}
 use Rattle.std.specs.Str.{bytes_eq}
-use Rattle.std.proofs.lemmas.Bool.{and_parts, and_from, both_ways, eqb-true, eqb-false, ne_eqb}
+use Rattle.std.proofs.lemmas.Bool.{and_parts, and_from, eqb-true, eqb-false, ne_eqb}
 use Rattle.plane_geom.specs.Names.{is_short}
 use Rattle.layer_map.specs.declared.expressions.Scan.{Scan}
-use Rattle.layer_map.specs.Building.{EndsProduct, EndsSum}
-use Rattle.layer_map.specs.Grammar.{Factor, of_layer, inverse, group, Product, product, Factors, no_factor, times, Sum, sum_of, Products, no_product, plus, factor_words, product_words, factors_words, sum_words, products_words, names_factor, names_product, names_factors, names_sum, names_products, layers_factor, layers_product, layers_factors, layers_in, layers_products}
-use Rattle.layer_map.specs.Readers.{◌>>=◌, first_of, behind, Level, Tail, no_level, level_sum, inverted, grouped, grouped_in, one_more_factor, one_more_product, closed, want, have, parse, tree_of, tree_in, is_done, factor_step, other_step, step, scan}
-use Rattle.layer_map.proofs.Steps.{bind_some, map_some, guarded, map_map, bytes_are, are_bytes, is_false, apart}
+use Rattle.layer_map.specs.Building.{EndsSum}
+use Rattle.layer_map.specs.Grammar.{Factor, of_layer, inverse, group, product, Factors, no_factor, times, Sum, sum_of, Products, no_product, plus, factor_words, factors_words, sum_words, products_words, names_factor, names_factors, names_sum, names_products, layers_factor, layers_factors, layers_in, layers_products}
+use Rattle.layer_map.specs.Readers.{◌>>=◌, first_of, Level, Tail, no_level, level_sum, inverted, grouped, grouped_in, one_more_factor, one_more_product, closed, want, have, parse, tree_of, tree_in, is_done, factor_step, other_step, step, scan}
+use Rattle.layer_map.proofs.Steps.{bind_some, map_some, bytes_are, apart}
 
 -- ---- the words of a tail
 

@@ -1,5 +1,5 @@
 -- Rows: what is read is spelled so, and what is spelled so is read.
-use Rattle.std.proofs.Common.{◌≡◌, ℕ, ◌+◌, ◌<◌, ◌≤◌, Bool, true, false, if◌then◌else◌, not, ◌&&◌, ◌||◌, List, [], ◌∷◌, ◌++◌, length, codes, Option, Some, None, refl, sym, ap, ◌∙◌, subst, arith, append_assoc}
+use Rattle.std.proofs.Common.{◌≡◌, ℕ, ◌<◌, Bool, true, false, if◌then◌else◌, not, ◌&&◌, ◌||◌, List, [], ◌∷◌, ◌++◌, length, codes, Option, Some, None, refl, sym, ap, ◌∙◌, subst, arith}
 use Rattle.std.specs.List.{list_all}
 use Rattle.std.specs.Str.{bytes_eq}
 use Rattle.std.proofs.lemmas.Bool.{and_parts, and_from}
@@ -11,11 +11,10 @@ use Rattle.layer_map.specs.declared.refusal.Side.{Side}
 use Rattle.layer_map.specs.declared.refusal.Side.TheVariants.{High, Low}
 use Rattle.layer_map.specs.Names.{is_wire_name, is_name}
 use Rattle.layer_map.specs.Words.{words_of, is_skipped, is_supply, begins_supply}
-use Rattle.layer_map.specs.Building.{EndsSum}
-use Rattle.layer_map.specs.Grammar.{Sum, sum_words, names_sum, Statement, nothing, wire, cut, fet, label, supply, kind_word, side_word, AreWires, HasWords, IsWire, IsCut, IsFet, IsLabel, IsSupply, SpellsLine}
+use Rattle.layer_map.specs.Grammar.{Sum, sum_words, names_sum, Statement, nothing, wire, cut, fet, label, supply, kind_word, side_word, AreWires, HasWords, SpellsLine}
 use Rattle.layer_map.specs.Readers.{◌>>=◌, first_of, behind, parse, is_nothing, are_wires, wire_at, cut_at, kind_at, terminals_at, fet_at, label_at, supply_at, row_at, said_at}
-use Rattle.layer_map.proofs.Steps.{bind_some, guarded, bytes_are, are_bytes, apart, is_false}
-use Rattle.layer_map.proofs.Parsing.{parse_takes, parse_again, IsParsed}
+use Rattle.layer_map.proofs.Steps.{bind_some, guarded, bytes_are, are_bytes}
+use Rattle.layer_map.proofs.Parsing.{parse_takes, parse_again}
 
 tested : {A : Type 0} (t : Bool) (o : Option A) (y : A) → (if t then o else None) ≡ Some y → (t ≡ true) × (o ≡ Some y)
 tested true o y h = (refl, h)

@@ -1,9 +1,8 @@
 -- Steps that may give nothing, and tests of words.
-use Rattle.std.proofs.Common.{◌≡◌, ℕ, Bool, true, false, cond, if◌then◌else◌, not, ◌&&◌, ◌∙◌, List, [], ◌∷◌, Option, Some, None, option_map, refl, sym, ap, codes}
+use Rattle.std.proofs.Common.{◌≡◌, ℕ, Bool, true, false, if◌then◌else◌, ◌∙◌, List, Option, Some, None, option_map, refl, sym, ap}
 use Rattle.std.specs.Str.{bytes_eq}
 use Rattle.std.proofs.lemmas.Slice.Eq.{bytes_eq-Decides}
-use Rattle.std.proofs.lemmas.Bool.{and_parts, both_ways}
-use Rattle.plane_geom.specs.Names.{is_short}
+use Rattle.std.proofs.lemmas.Bool.{both_ways}
 use Rattle.layer_map.specs.Readers.{◌>>=◌}
 
 pub bind_some : {A B : Type 0} (o : Option A) (f : A → Option B) (y : B) → (o >>= f) ≡ Some y → (x : A) × (o ≡ Some x) × (f x ≡ Some y)

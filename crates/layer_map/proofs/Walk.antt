@@ -1,17 +1,16 @@
 -- The walk over the lines of a text.
-use Rattle.std.proofs.Common.{◌≡◌, ℕ, zero, suc, ◌+◌, ◌<◌, ◌≤◌, Bool, true, false, if◌then◌else◌, not, ◌&&◌, ◌||◌, List, [], ◌∷◌, ◌++◌, length, Option, Some, None, refl, sym, ap, ◌∙◌, subst, arith, ◌==◌, append_assoc, ◌⊎◌, inl, inr}
+use Rattle.std.proofs.Common.{◌≡◌, ℕ, ◌+◌, ◌<◌, Bool, true, false, if◌then◌else◌, not, List, [], ◌∷◌, ◌++◌, length, Option, Some, None, refl, sym, ap, ◌∙◌, subst, arith, ◌==◌, append_assoc, inl, inr}
 use Rattle.std.specs.List.{list_any}
 use Rattle.std.specs.Option.{option_or}
-use Rattle.std.proofs.lemmas.Bool.{eqb-true, ne_eqb}
+use Rattle.std.proofs.lemmas.Bool.{ne_eqb}
 use Rattle.std.proofs.lemmas.List.{append-nil, length-append}
 use Rattle.layer_map.specs.declared.refusal.MapRefusal.{MapRefusal}
 use Rattle.layer_map.specs.declared.refusal.MapRefusal.TheVariants.{BadLine, NoSupplyLine}
-use Rattle.layer_map.specs.declared.refusal.Side.{Side}
 use Rattle.layer_map.specs.declared.refusal.Side.TheVariants.{High, Low}
 use Rattle.layer_map.specs.Lines.{lines_of}
 use Rattle.layer_map.specs.Grammar.{Statement, nothing, wire, cut, fet, label, supply, SpellsLine, Spells}
-use Rattle.layer_map.specs.Plan.{Wire, Plan, map_of, gathered, supplies_in}
-use Rattle.layer_map.specs.Faults.{fault_in, first_fault, names_side, lacks, supply_fault, IsLineFault, FaultAt, FaultBehind, Refuses, Accepts}
+use Rattle.layer_map.specs.Plan.{Plan, map_of, gathered, supplies_in}
+use Rattle.layer_map.specs.Faults.{fault_in, first_fault, names_side, lacks, supply_fault, IsLineFault, Refuses, Accepts}
 use Rattle.layer_map.specs.Steps.{Adds, with_line}
 use Rattle.layer_map.specs.Readers.{first_of, said_at}
 use Rattle.layer_map.proofs.Parsing.{first_is, none_first}

@@ -1,8 +1,7 @@
 -- Where words end.
-use Rattle.std.proofs.Common.{◌≡◌, ℕ, zero, suc, ◌+◌, ◌-◌, ◌<◌, ◌≤◌, Bool, true, false, cond, if◌then◌else◌, not, ◌&&◌, ◌||◌, List, [], ◌∷◌, ◌++◌, length, take, drop, max, Option, Some, None, refl, sym, ap, ◌∙◌, subst, arith, ◌==◌, one-add}
+use Rattle.std.proofs.Common.{◌≡◌, ℕ, zero, suc, ◌+◌, ◌-◌, ◌<◌, Bool, true, false, cond, if◌then◌else◌, not, ◌&&◌, ◌||◌, List, [], ◌∷◌, length, take, drop, max, Option, Some, None, refl, sym, ap, ◌∙◌, arith, ◌==◌, one-add}
 use Rattle.std.specs.List.{prefix_len}
 use Rattle.std.proofs.lemmas.List.{length-drop, take_all}
-
 use Rattle.layer_map.specs.Lines.{onto_first}
 use Rattle.layer_map.specs.Words.{is_blank, is_single, is_plain, begins_plain, words_of}
 use Rattle.layer_map.specs.Readers.{first_of}

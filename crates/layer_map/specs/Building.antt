@@ -1,9 +1,6 @@
 -- What the readers that make trees give.
-use Rattle.std.specs.Prelude.{◌≡◌, ℕ, Bool, true, false, List, [], ◌∷◌, codes, Option, Some, None, nat_le, if◌then◌else◌}
-use Rattle.std.specs.Str.{bytes_eq}
-use Rattle.layer_map.specs.declared.expr.Expr.{Expr}
-use Rattle.layer_map.specs.Words.{words_of}
-use Rattle.layer_map.specs.Truth.{Formula, formula_of}
+use Rattle.std.specs.Prelude.{◌≡◌, ℕ, List, codes, Option, Some, None, nat_le, if◌then◌else◌}
+use Rattle.layer_map.specs.Truth.{Formula}
 use Rattle.layer_map.specs.Readers.{behind}
 
 -- the expression and the words behind it, if there is room for its depth

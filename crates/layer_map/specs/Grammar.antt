@@ -1,5 +1,5 @@
 -- What the lines of a map spell, row by row.
-use Rattle.std.specs.Prelude.{◌≡◌, ℕ, ◌+◌, ◌<◌, Bool, true, false, IsTrue, List, [], ◌∷◌, ◌++◌, length, codes, max, ◌&&◌}
+use Rattle.std.specs.Prelude.{◌≡◌, ℕ, ◌+◌, ◌<◌, Bool, true, false, List, [], ◌∷◌, ◌++◌, length, codes, max, ◌&&◌}
 use Rattle.std.specs.List.{list_all}
 use Rattle.plane_geom.specs.Names.{is_short}
 use Rattle.switch_net.specs.declared.Kind.{Kind}

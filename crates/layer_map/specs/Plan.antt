@@ -1,12 +1,12 @@
 -- The map that lines say, in plain lists. A wire is known by its number, its place among the wires from 0.
-use Rattle.std.specs.Prelude.{◌≡◌, ℕ, ◌<◌, ◌≤◌, Bool, true, false, List, [], ◌∷◌, ◌++◌, length, map}
+use Rattle.std.specs.Prelude.{◌≡◌, ℕ, ◌<◌, ◌≤◌, true, false, List, [], ◌∷◌, ◌++◌, length, map}
 use Rattle.std.specs.List.{AllByRecursion, position_or_len}
 use Rattle.std.specs.Str.{bytes_eq}
 use Rattle.switch_net.specs.declared.Kind.{Kind}
 use Rattle.layer_map.specs.declared.refusal.Side.{Side}
 use Rattle.layer_map.specs.declared.refusal.Side.TheVariants.{High, Low}
 use Rattle.layer_map.specs.Names.{are_distinct}
-use Rattle.layer_map.specs.Grammar.{Statement, nothing, wire, cut, fet, label, supply}
+use Rattle.layer_map.specs.Grammar.{Statement, wire, cut, fet, label, supply}
 use Rattle.layer_map.specs.Truth.{Formula, is_unbounded, means}
 
 pub record Wire : Type 0 where

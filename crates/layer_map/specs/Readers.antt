@@ -1,16 +1,15 @@
 -- What the readers of lines give, on lists of words.
-use Rattle.std.specs.Prelude.{◌≡◌, ℕ, ◌+◌, ◌-◌, ◌<◌, Bool, true, false, List, [], ◌∷◌, length, codes, Option, Some, None, option_map, not, ◌&&◌, ◌||◌, ◌==◌, if◌then◌else◌, nat_lt, nat_le}
+use Rattle.std.specs.Prelude.{ℕ, ◌+◌, ◌-◌, Bool, true, false, List, [], ◌∷◌, codes, Option, Some, None, option_map, not, ◌&&◌, ◌||◌, ◌==◌, if◌then◌else◌}
 use Rattle.std.specs.List.{list_all}
 use Rattle.std.specs.Str.{bytes_eq}
 use Rattle.plane_geom.specs.Names.{is_short}
 use Rattle.switch_net.specs.declared.Kind.{Kind}
 use Rattle.switch_net.specs.declared.Kind.TheVariants.{N, P}
-use Rattle.layer_map.specs.declared.refusal.Side.{Side}
 use Rattle.layer_map.specs.declared.refusal.Side.TheVariants.{High, Low}
 use Rattle.layer_map.specs.declared.expressions.Scan.{Scan}
 use Rattle.layer_map.specs.Names.{is_wire_name, is_name}
 use Rattle.layer_map.specs.Words.{words_of, is_skipped, is_supply}
-use Rattle.layer_map.specs.Grammar.{Factor, of_layer, inverse, group, Product, product, Factors, no_factor, times, Sum, sum_of, Products, no_product, plus, Statement, nothing, wire, cut, fet, label, supply}
+use Rattle.layer_map.specs.Grammar.{Factor, of_layer, inverse, group, product, Factors, no_factor, times, Sum, sum_of, Products, no_product, plus, Statement, nothing, wire, cut, fet, label, supply}
 
 infixl 10 ◌>>=◌
 abbrev pub ◌>>=◌ : {A B : Type 0} → Option A → (A → Option B) → Option B

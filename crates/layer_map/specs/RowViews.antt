@@ -1,6 +1,6 @@
 -- What a row of the code says.
-use Rattle.std.specs.Prelude.{◌≡◌, ℕ, List, Some, true, false}
-use Rattle.std.specs.Prelude.{Option, option_map, is_some}
+use Rattle.std.specs.Prelude.{◌≡◌, ℕ, List, true, false}
+use Rattle.std.specs.Prelude.{is_some}
 use Rattle.plane_geom.specs.Names.{is_short}
 use Rattle.layer_map.specs.declared.rows.Row.{Row}
 use Rattle.layer_map.specs.declared.rows.Row.TheVariants.{Nothing, Wire, Cut, Fet, Label, Supply}

@@ -1,5 +1,5 @@
 -- One line more of a map.
-use Rattle.std.specs.Prelude.{◌≡◌, ℕ, List, ◌++◌, None}
+use Rattle.std.specs.Prelude.{◌≡◌, ℕ, ◌++◌, None}
 use Rattle.layer_map.specs.declared.refusal.Side.TheVariants.{High, Low}
 use Rattle.layer_map.specs.Grammar.{Statement}
 use Rattle.layer_map.specs.Plan.{Plan, wire_in, cut_in, fet_in, label_in, supplies_in}

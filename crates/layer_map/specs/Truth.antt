@@ -1,5 +1,5 @@
 -- What an expression means.
-use Rattle.std.specs.Prelude.{ℕ, Bool, true, false, List, not, ◌&&◌, ◌||◌}
+use Rattle.std.specs.Prelude.{ℕ, Bool, false, List, not, ◌&&◌, ◌||◌}
 use Rattle.layer_map.specs.declared.expr.Expr.{Expr}
 use Rattle.layer_map.specs.declared.expr.Expr.{Layer, Not', And', Or'}
 use Rattle.layer_map.specs.Grammar.{Factor, of_layer, inverse, group, Product, product, Factors, no_factor, times, Sum, sum_of, Products, no_product, plus}

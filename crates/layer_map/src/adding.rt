@@ -126,12 +126,15 @@ impl LayerMap {
         if is_unbounded(&channel) {
             return Err(MapRefusal::Unbounded(number));
         }
-        push(&mut self.fets, FetLine {
+        push(
+            &mut self.fets,
+            FetLine {
                 kind,
                 channel,
                 gate,
                 diff,
-            })?;
+            },
+        )?;
         Ok(())
     }
 
@@ -192,12 +195,7 @@ impl LayerMap {
     }
 
     /// Adds what the line with this number says, or answers its first fault.
-    pub(crate) fn add(
-        &mut self,
-        alloc: Global,
-        number: u64,
-        row: Row<'_>,
-    ) -> Result<(), MapRefusal>
+    pub(crate) fn add(&mut self, alloc: Global, number: u64, row: Row<'_>) -> Result<(), MapRefusal>
         requires { IsFormed row }
         ensures added { OnOk result (Adds number self.old (row_seen row.entry) self.new) }
         ensures fault { IfErr result (λ fault. fault ≢ MapRefusal.NoMemory → fault_in number self.old (row_seen row.entry) ≡ Some fault) }

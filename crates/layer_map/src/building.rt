@@ -86,12 +86,7 @@ fn product(alloc: Global, room: u32, bytes: &[u8]) -> Result<Built<'_>, AllocErr
 
 /// What stands to the left, times any number of factors.
 #[cycle(expressions)]
-fn more_factors(
-    alloc: Global,
-    room: u32,
-    left: Expr,
-    bytes: &[u8],
-) -> Result<Built<'_>, AllocError>
+fn more_factors(alloc: Global, room: u32, left: Expr, bytes: &[u8]) -> Result<Built<'_>, AllocError>
     ensures within { IfOk result (λ o. IfSome o (λ x. length x.1.now ≤ length bytes.now)) }
     ensures tree { (fs : Factors) (tail : List (List ℕ)) → words_of true bytes.now ≡ factors_words fs ++ tail → EndsProduct tail → names_factors fs ≡ true → IfOk result (λ o. option_map (λ x. (formula_of x.0, words_of true x.1.now)) o ≡ built (depth_factors fs) room (factors_mean fs (formula_of left)) tail) }
 {

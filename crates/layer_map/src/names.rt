@@ -7,8 +7,8 @@ ghost use Rattle.plane_geom.specs.Names.{is_short as is_short_lem};
 ghost use Rattle.layer_map.specs.Words.{words_of};
 ghost use Rattle.layer_map.specs.Readers.{is_nothing, are_wires as are_wires_lem};
 
-use plane_geom::Short;
 use crate::words::{next_name, next_word};
+use plane_geom::Short;
 
 /// The longest name of a wire, in bytes.
 const LONGEST_WIRE_NAME: usize = 16;
@@ -26,8 +26,7 @@ pub(crate) fn is_short(word: &[u8]) -> bool
 fn are_wire_bytes(word: &[u8]) -> bool
     ensures { result ≡ list_all is_wire_byte_lem word.now }
 {
-    word.iter()
-        .all(|byte| byte.is_ascii_lowercase() || byte.is_ascii_digit() || *byte == b'_')
+    word.iter().all(|byte| byte.is_ascii_lowercase() || byte.is_ascii_digit() || *byte == b'_')
 }
 
 /// Whether a wire may be called so.

@@ -4,7 +4,7 @@ use crate::{LayerMap, MapRefusal, Side, read};
 use std::alloc::{AllocError, Global};
 use std::test::Fail;
 
-/// A map of two metals' worth of lines: wires, cuts, transistors, labels and supplies.
+/// The map of a CMOS cell.
 const CELL: &[u8] = b"wire poly CPG
 wire ndiff CAA*CSN*!CPG
 wire pdiff CAA*CSP*!CPG
@@ -63,16 +63,28 @@ fn refuses_the_first_fault(rt: HostRuntime) -> Result<(), Fail> {
     let alloc = rt.alloc();
     let rows = [
         (b"wire metal !CMF".as_slice(), MapRefusal::Unbounded(1)),
-        (b"wire metal CMF+!(CPG*!CAA)".as_slice(), MapRefusal::Unbounded(1)),
+        (
+            b"wire metal CMF+!(CPG*!CAA)".as_slice(),
+            MapRefusal::Unbounded(1),
+        ),
         (b"cut CVA : metal".as_slice(), MapRefusal::UnknownWire(1)),
         (
             b"wire metal CMF\nlabel CMF metal\nhigh Vdd\n".as_slice(),
             MapRefusal::NoSupplyLine(Side::Low),
         ),
         (b"".as_slice(), MapRefusal::NoSupplyLine(Side::High)),
-        (b"# map\n\nwire metal CMF+\n".as_slice(), MapRefusal::BadLine(3)),
-        (b"wire m CMF\nwire m CPG".as_slice(), MapRefusal::TwiceNamed(2)),
-        (b"high Vdd\r\nlow Vdd\r\n".as_slice(), MapRefusal::TwiceNamed(2)),
+        (
+            b"# map\n\nwire metal CMF+\n".as_slice(),
+            MapRefusal::BadLine(3),
+        ),
+        (
+            b"wire m CMF\nwire m CPG".as_slice(),
+            MapRefusal::TwiceNamed(2),
+        ),
+        (
+            b"high Vdd\r\nlow Vdd\r\n".as_slice(),
+            MapRefusal::TwiceNamed(2),
+        ),
         (b"high A+B A+B".as_slice(), MapRefusal::TwiceNamed(1)),
         (b"high Vdd\r".as_slice(), MapRefusal::BadLine(1)),
         (b"high+Vdd".as_slice(), MapRefusal::BadLine(1)),
@@ -102,6 +114,12 @@ fn keeps_to_the_limits(rt: HostRuntime) -> Result<(), Fail> {
     assert!(rt; refusal(alloc, &wide) == None);
     let wider = joined(alloc, b"wire metal ", &more_layers, b"CMF")?;
     assert!(rt; refusal(alloc, &wider) == too_many);
+    let wires =
+        b"wire a A\nwire b A\nwire c A\nwire d A\nwire e A\nwire f A\nwire g A\nwire h A\nwire i A\nwire j A\nwire k A\nwire l A\nwire m A\nwire n A\nwire o A\nwire p A\n";
+    let sixteen = joined(alloc, wires, b"", b"# no more")?;
+    assert!(rt; refusal(alloc, &sixteen) == None);
+    let seventeen = joined(alloc, wires, b"", b"wire p A")?;
+    assert!(rt; refusal(alloc, &seventeen) == Some(MapRefusal::TooMany(17)));
     let many = joined(alloc, b"high", &names, b"")?;
     assert!(rt; refusal(alloc, &many) == too_many);
     Ok(())

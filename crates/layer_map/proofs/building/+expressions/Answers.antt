@@ -1,4 +1,4 @@
-use Rattle.std.proofs.Common.{sym, ap}
+use Rattle.std.proofs.Common.{ap}
 use Rattle.layer_map.specs.Truth.{formula_of, both, either}
 use Rattle.layer_map.proofs.TreeLemmas.{bang_no_room, bang_none, bang_some, group_no_room, group_then, no_word_left, layer_none, layer_some, no_more_factors, next_factor_none, next_factor_some, product_none, product_some, no_more_products, next_product_none, next_product_some, sum_none, sum_some}
 use Rattle.layer_map.proofs.building.+expressions.Goals as goal

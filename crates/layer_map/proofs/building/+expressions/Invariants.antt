@@ -1,5 +1,5 @@
 -- The bytes get fewer, or they stay and the call is of an inner form.
-use Rattle.std.proofs.Common.{ℕ, ◌+◌, ◌*◌, length}
+use Rattle.std.proofs.Common.{◌+◌, ◌*◌, length}
 use Rattle.layer_map.proofs.building.+expressions.Given as goal
 
 abbrev pub decreases-factor : goal.decreases-factor

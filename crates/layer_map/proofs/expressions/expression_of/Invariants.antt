@@ -1,6 +1,5 @@
-use Rattle.std.proofs.Common.{◌≡◌, ◌+◌, ◌≤◌, true, length}
+use Rattle.std.proofs.Common.{true, length}
 use Rattle.layer_map.specs.Words.{words_of}
-use Rattle.layer_map.specs.Readers.{scan}
 use Rattle.layer_map.proofs.Parsing.{IsScanned}
 use Rattle.layer_map.proofs.expressions.expression_of.Given as goal
 

@@ -1,7 +1,5 @@
-use Rattle.std.proofs.Common.{sym, ap, ◌∙◌, if◌then◌else◌, Some, None, Option}
-use Rattle.std.specs.List.{position_or_len}
-use Rattle.layer_map.specs.declared.map.WireId.{WireId}
-use Rattle.layer_map.proofs.AddingLemmas.{has_name, lacking_wire, found_wire}
+use Rattle.std.proofs.Common.{◌∙◌}
+use Rattle.layer_map.proofs.AddingLemmas.{lacking_wire, found_wire}
 use Rattle.layer_map.proofs.judge.number_of.Goals as goal
 
 pub returns-in_err-place : goal.returns-in_err-place

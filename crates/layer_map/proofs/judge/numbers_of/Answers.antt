@@ -1,4 +1,4 @@
-use Rattle.std.proofs.Common.{ap, ◌++◌, ◌∷◌, [], ◌∙◌}
+use Rattle.std.proofs.Common.{ap, ◌∙◌}
 use Rattle.std.proofs.lemmas.List.{map-append}
 use Rattle.layer_map.specs.Views.{numbers_seen}
 use Rattle.layer_map.proofs.AddingLemmas.{numbered_more}

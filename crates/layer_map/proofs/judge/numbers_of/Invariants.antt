@@ -1,4 +1,4 @@
-use Rattle.std.proofs.Common.{◌≡◌, ◌++◌, true, length}
+use Rattle.std.proofs.Common.{true, length}
 use Rattle.layer_map.specs.Words.{words_of}
 use Rattle.layer_map.specs.Views.{numbers_seen}
 use Rattle.layer_map.proofs.AddingLemmas.{IsNumbered}

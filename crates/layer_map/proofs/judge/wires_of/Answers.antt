@@ -1,4 +1,3 @@
-use Rattle.std.specs.declared.alloc.AllocError.{AllocError}
 use Rattle.std.proofs.Common.{true}
 use Rattle.layer_map.specs.Words.{words_of}
 use Rattle.layer_map.proofs.AddingLemmas.{all_found}

@@ -1,4 +1,3 @@
-use Rattle.std.proofs.Common.{sym, arith}
 use Rattle.layer_map.proofs.LineLemmas.{read_line, read_last_line, positive}
 use Rattle.layer_map.proofs.words.next_line.Goals as goal
 

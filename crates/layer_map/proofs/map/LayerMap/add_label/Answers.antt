@@ -1,4 +1,4 @@
-use Rattle.std.proofs.Common.{refl, sym}
+use Rattle.std.proofs.Common.{refl}
 use Rattle.layer_map.proofs.FaultLemmas.{kept_with_label, numbers_at_hand, layer_at_hand}
 use Rattle.layer_map.proofs.map.LayerMap.add_label.Goals as goal
 

@@ -178,72 +178,74 @@ fn refusals_come_in_order(rt: HostRuntime) -> Result<(), Fail> {
     Ok(())
 }
 
+/// Layouts, why each is refused, and the line that says so.
+const FAULTY: [(&str, CifRefusal, &str); 13] = [
+    ("", CifRefusal::Syntax(0), "carafe: Syntax 0\n"),
+    (
+        "L CMF; B 10 10 5",
+        CifRefusal::Syntax(7),
+        "carafe: Syntax 7\n",
+    ),
+    (
+        "L CMF; B 10 10 5 5;",
+        CifRefusal::Syntax(19),
+        "carafe: Syntax 19\n",
+    ),
+    (
+        "DS 1 2; L CMF; B 10 10 5 5; DF; C 1; E",
+        CifRefusal::Syntax(0),
+        "carafe: Syntax 0\n",
+    ),
+    (
+        "L CMF; B 2147483648 2 0 0; E",
+        CifRefusal::NumberTooLarge(9),
+        "carafe: NumberTooLarge 9\n",
+    ),
+    (
+        "L CMF; R 10 0 0; E",
+        CifRefusal::Unsupported(7, Feature::Round),
+        "carafe: Unsupported 7 Round\n",
+    ),
+    (
+        "DS 1; DF; DD 1; E",
+        CifRefusal::Unsupported(10, Feature::DefDelete),
+        "carafe: Unsupported 10 DefDelete\n",
+    ),
+    (
+        "L CMF; P 0 0 10 0 10 10; E",
+        CifRefusal::NotManhattan(7),
+        "carafe: NotManhattan 7\n",
+    ),
+    (
+        "B 10 10 5 5; E",
+        CifRefusal::NoLayer(0),
+        "carafe: NoLayer 0\n",
+    ),
+    (
+        "DS 1; DF; DS 1; DF; E",
+        CifRefusal::TwiceDefined(10),
+        "carafe: TwiceDefined 10\n",
+    ),
+    (
+        "DS 1 0 2; DF; E",
+        CifRefusal::ZeroScale(0),
+        "carafe: ZeroScale 0\n",
+    ),
+    (
+        "DS 1 1 2; L CMF; B 3 4 0 0; DF; C 1; E",
+        CifRefusal::OffGrid(17),
+        "carafe: OffGrid 17\n",
+    ),
+    (
+        "94 #a 1 1; E",
+        CifRefusal::BadLabel(0),
+        "carafe: BadLabel 0\n",
+    ),
+];
+
 #[test]
 fn layouts_are_refused_at_their_place(rt: HostRuntime) -> Result<(), Fail> {
-    let rows = [
-        ("", CifRefusal::Syntax(0), "carafe: Syntax 0\n"),
-        (
-            "L CMF; B 10 10 5",
-            CifRefusal::Syntax(7),
-            "carafe: Syntax 7\n",
-        ),
-        (
-            "L CMF; B 10 10 5 5;",
-            CifRefusal::Syntax(19),
-            "carafe: Syntax 19\n",
-        ),
-        (
-            "DS 1 2; L CMF; B 10 10 5 5; DF; C 1; E",
-            CifRefusal::Syntax(0),
-            "carafe: Syntax 0\n",
-        ),
-        (
-            "L CMF; B 2147483648 2 0 0; E",
-            CifRefusal::NumberTooLarge(9),
-            "carafe: NumberTooLarge 9\n",
-        ),
-        (
-            "L CMF; R 10 0 0; E",
-            CifRefusal::Unsupported(7, Feature::Round),
-            "carafe: Unsupported 7 Round\n",
-        ),
-        (
-            "DS 1; DF; DD 1; E",
-            CifRefusal::Unsupported(10, Feature::DefDelete),
-            "carafe: Unsupported 10 DefDelete\n",
-        ),
-        (
-            "L CMF; P 0 0 10 0 10 10; E",
-            CifRefusal::NotManhattan(7),
-            "carafe: NotManhattan 7\n",
-        ),
-        (
-            "B 10 10 5 5; E",
-            CifRefusal::NoLayer(0),
-            "carafe: NoLayer 0\n",
-        ),
-        (
-            "DS 1; DF; DS 1; DF; E",
-            CifRefusal::TwiceDefined(10),
-            "carafe: TwiceDefined 10\n",
-        ),
-        (
-            "DS 1 0 2; DF; E",
-            CifRefusal::ZeroScale(0),
-            "carafe: ZeroScale 0\n",
-        ),
-        (
-            "DS 1 1 2; L CMF; B 3 4 0 0; DF; C 1; E",
-            CifRefusal::OffGrid(17),
-            "carafe: OffGrid 17\n",
-        ),
-        (
-            "94 #a 1 1; E",
-            CifRefusal::BadLabel(0),
-            "carafe: BadLabel 0\n",
-        ),
-    ];
-    for (text, refusal, line) in rows {
+    for (text, refusal, line) in FAULTY {
         let ending = call(rt.alloc(), "bridges map cif 3", text, &NONE)?;
         let status = Status::Refused(Refusal::Cif(refusal));
         assert_eq!(rt; ending.status, status, "{text}");

@@ -13,3 +13,4 @@ pub mod Placing
 pub mod Reaching
 pub mod Starting
 pub mod Steps
+pub mod Worked

@@ -8,10 +8,8 @@ ghost use Rattle.cif_grammar.specs.Words.{limit};
 ghost use Rattle.cif_reader.specs.Label.{is_white as is_white_lem, is_label as is_label_lem, is_name as is_name_lem, is_name_byte, size_of as size_of_lem, coordinate_of as coordinate_of_lem, label_in as label_in_lem};
 ghost use Rattle.cif_reader.specs.Near.{is_dark, field_at, label_seen, label_tail, label_by_fields};
 
+use crate::measure::LIMIT;
 use plane_geom::{Point, Short};
-
-/// The greatest size of a coordinate of a label.
-const LIMIT: u64 = 2_147_483_647;
 
 /// The longest name of a label.
 const LONGEST_NAME: usize = 64;

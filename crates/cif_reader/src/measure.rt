@@ -11,8 +11,8 @@ use crate::facing::{Facing, facing_along, lies_along_y};
 use cif_grammar::{Signed, Spot};
 use plane_geom::{Point, Rect};
 
-/// The greatest distance from 0 of a number of mask units.
-const LIMIT: u32 = 2_147_483_647;
+/// The greatest number of a CIF text, and of a file in mask units.
+pub(crate) const LIMIT: u64 = 2_147_483_647;
 
 /// A scale a/b.
 #[derive(Clone, Copy, Debug, PartialEq, Eq)]

@@ -1,10 +1,8 @@
 -- Clauses one behind the other: where each stands, and one more at the end.
 use Rattle.std.proofs.Common.{◌≡◌, ℕ, zero, suc, ◌+◌, ◌-◌, ◌<◌, ◌≤◌, ℤ, List, [], ◌∷◌, ◌++◌, length, take, drop, refl, sym, ap, ◌∙◌, subst, arith, slice_index, slice_index_or, length-append, length-drop}
-use Rattle.std.specs.List.{All}
 use Rattle.std.proofs.Math.Seq.{drop-append_seam}
 use Rattle.std.proofs.lemmas.List.{take-append-le, drop-append-le, take_all}
-use Rattle.std.proofs.lemmas.List.Elements.{All-push}
-use Rattle.clause_arena.specs.Arenas.{IsNormal, begin_of, clauses_from, AreEnds, IsArena}
+use Rattle.clause_arena.specs.Arenas.{begin_of, clauses_from, AreEnds}
 
 pub last_of : (start : ℕ) (ends : List ℕ) (size : ℕ) → AreEnds start ends size → start ≤ size
 last_of start [] size are = omega (arith, are)
@@ -49,11 +47,5 @@ ends_more : (start : ℕ) (ends : List ℕ) (size more : ℕ) → AreEnds start 
 ends_more start [] size more are = (omega (arith, are), refl)
 ends_more start (end ∷ ends) size more are = (are.0, ends_more end ends size more are.1)
 
-pub arena_more : (ends : List ℕ) (lits new : List ℤ) → IsArena ends lits → IsNormal new → IsArena (ends ++ (length lits + length new) ∷ []) (lits ++ new)
-arena_more ends lits new arena normal = record {
-  ends_ = subst (λ n. AreEnds 0 (ends ++ (length lits + length new) ∷ []) n) (sym (length-append lits new)) (ends_more 0 ends (length lits) (length new) arena.ends_);
-  normal = subst (λ cs. All IsNormal cs) (sym (clauses_more 0 ends lits new arena.ends_)) (All-push IsNormal (clauses_from 0 ends lits) new arena.normal normal);
-}
-
-pub normal_at : (ends : List ℕ) (lits clause : List ℤ) (k : ℕ) → IsArena ends lits → k < length ends → clause ≡ slice_index_or (clauses_from 0 ends lits) k [] → IsNormal clause
-normal_at ends lits clause k arena lt is = subst IsNormal (sym is) (arena.normal k [] (omega (arith, lt, count_is 0 ends lits)))
+pub store_more : (ends : List ℕ) (lits new : List ℤ) → AreEnds 0 ends (length lits) → AreEnds 0 (ends ++ (length lits + length new) ∷ []) (length (lits ++ new))
+store_more ends lits new are = subst (λ n. AreEnds 0 (ends ++ (length lits + length new) ∷ []) n) (sym (length-append lits new)) (ends_more 0 ends (length lits) (length new) are)

@@ -1,5 +1,5 @@
 -- Clauses that are kept one behind the other, and the places where each ends.
-use Rattle.std.specs.Prelude.{◌≡◌, ℕ, zero, suc, ◌-◌, ◌≤◌, ℤ, List, [], ◌∷◌, length, take, drop, slice_index, All}
+use Rattle.std.specs.Prelude.{◌≡◌, ℕ, zero, suc, ◌-◌, ◌≤◌, ℤ, List, [], ◌∷◌, take, drop, slice_index}
 use Rattle.clause_base.specs.Literals.{IsRising}
 use Rattle.clause_base.specs.Novelty.{IsApart}
 
@@ -22,7 +22,3 @@ begin_of start ends (suc k) = slice_index ends k
 abbrev pub AreEnds : ℕ → List ℕ → ℕ → Type 0
 AreEnds start [] size = start ≡ size
 AreEnds start (end ∷ ends) size = (start ≤ end) × AreEnds end ends size
-
-pub record IsArena (ends : List ℕ) (lits : List ℤ) : Type 0 where
-  pub ends_ : AreEnds 0 ends (length lits)
-  pub normal : All IsNormal (clauses_from 0 ends lits)

@@ -1,6 +1,9 @@
-ghost use Rattle.std.specs.Prelude.{◌≡◌, ◌<◌, ◌≤◌, ◌-◌, take, drop, [], ◌∷◌, ◌++◌, length, slice_index_or, OnErr, IfOk};
-ghost use Rattle.clause_arena.specs.Arenas.{IsNormal, AreEnds, begin_of, clauses_from};
+//! Clauses that each list their literals once, in rising order, and none beside its negation.
 
+ghost use Rattle.std.specs.Prelude.{◌≡◌, ◌<◌, [], ◌∷◌, ◌++◌, length, slice_index_or, OnErr, IfOk};
+ghost use Rattle.clause_arena.specs.Arenas.{IsNormal};
+
+use crate::store::Store;
 use clause_base::Lit;
 use std::alloc::{AllocError, Global};
 use std::marker::Model;
@@ -25,20 +28,18 @@ impl Model for ClauseRef {
 /// literal once, in rising order, and none beside its negation.
 #[derive(Debug, Drop)]
 pub struct Arena {
-    lits: Vec<Lit>,
-    /// The place behind the last literal of each clause.
-    ends: Vec<usize>,
+    store: Store,
 }
 
 impl Model for Arena {
-    ghost use Rattle.std.specs.Prelude.{ℤ, List};
-    ghost use Rattle.clause_arena.specs.Arenas.{clauses_from, IsArena};
+    ghost use Rattle.std.specs.Prelude.{ℤ, List, All};
+    ghost use Rattle.clause_arena.specs.Arenas.{IsNormal};
 
     ghost Value = { List (List ℤ) };
 
-    ghost view = { λ arena. clauses_from 0 arena.ends.items arena.lits.items };
+    ghost view = { λ arena. arena.store };
 
-    ghost invariant = { λ arena. IsArena arena.ends.items arena.lits.items };
+    ghost invariant = { λ arena. All IsNormal arena.store };
 }
 
 impl Arena {
@@ -47,8 +48,7 @@ impl Arena {
         ensures { result ≡ [] }
     {
         Arena {
-            lits: Vec::new(alloc),
-            ends: Vec::new(alloc),
+            store: Store::new(alloc),
         }
     }
 
@@ -60,12 +60,8 @@ impl Arena {
         ensures number { IfOk result (λ number. number ≡ length self.old) }
         ensures kept { OnErr result (self.new ≡ self.old) }
     {
-        let number = self.ends.len();
-        self.ends.reserve(1)?;
-        self.lits.extend_from_slice(lits)?;
-        let Ok(()) = self.ends.push(self.lits.len()) else {
-            unreachable!();
-        };
+        let number = self.store.len();
+        self.store.add(lits)?;
         Ok(ClauseRef { number })
     }
 
@@ -75,39 +71,13 @@ impl Arena {
         ensures same { result.now ≡ slice_index_or self.now at [] }
         ensures normal { IsNormal result.now }
     {
-        clause_at(self.ends.as_slice(), self.lits.as_slice(), at.number)
+        self.store.clause(at.number)
     }
 
     /// How many clauses there are.
     pub fn len(&self) -> usize
         ensures { result ≡ length self.now }
     {
-        self.ends.len()
+        self.store.len()
     }
-}
-
-/// The literals of the clause with this number.
-fn clause_at<'a>(ends: &[usize], lits: &'a [Lit], number: usize) -> &'a [Lit]
-    requires arena { AreEnds 0 ends.now (length lits.now) }
-    requires in_range { number < length ends.now }
-    ensures { result.now ≡ slice_index_or (clauses_from 0 ends.now lits.now) number [] }
-{
-    part(lits, start_of(ends, number), ends[number])
-}
-
-/// The literals from one place up to another.
-fn part(lits: &[Lit], start: usize, end: usize) -> &[Lit]
-    requires order { start ≤ end }
-    requires within { end ≤ length lits.now }
-    ensures { result.now ≡ take (end - start) (drop start lits.now) }
-{
-    &lits[start..end]
-}
-
-/// The place where the clause with this number begins.
-fn start_of(ends: &[usize], number: usize) -> usize
-    requires { number < length ends.now }
-    ensures { result ≡ begin_of 0 ends.now number }
-{
-    if number == 0 { 0 } else { ends[number - 1] }
 }

@@ -1,32 +1,8 @@
-use Rattle.std.proofs.Common.{◌≡◌, ◌+◌, ◌∷◌, [], ◌++◌, length, length-append, sym, ◌∙◌, ap, arith, subst}
-use Rattle.clause_arena.specs.Arenas.{IsArena, clauses_from}
-use Rattle.clause_arena.proofs.Ends.{count_is, clauses_more, arena_more}
+use Rattle.std.proofs.Common.{sym, subst}
+use Rattle.std.specs.List.{All}
+use Rattle.std.proofs.lemmas.List.Elements.{All-push}
+use Rattle.clause_arena.specs.Arenas.{IsNormal}
 use Rattle.clause_arena.proofs.arena.Arena.add.Goals as goal
 
 pub invariant_of-self-2 : goal.invariant_of-self-2
-invariant_of-self-2 c =
-    let ends = c.self.inside.ends.items in
-    let lits = c.self.inside.lits.items in
-    let more = c.in_ok-extend_from_slice.ensures.items in
-    let grown : length c.extend_from_slice.new.self.items ≡ length lits + length c.args.lits.now = ap length more ∙ length-append lits c.args.lits.now in
-    let size : c.len.result ≡ length lits + length c.args.lits.now = omega (arith, c.len.ensures, c.extend_from_slice.new.self.ok, grown) in
-    let put : c.push.new.self.items ≡ ends ++ (length lits + length c.args.lits.now) ∷ [] =
-    c.in-Ok.ensures.items ∙ ap (λ es. es ++ c.len.result ∷ []) c.in_ok-reserve.ensures.items ∙ ap (λ n. ends ++ n ∷ []) size in
-    subst (λ es. IsArena es c.extend_from_slice.new.self.items) (sym put) (subst (λ ls. IsArena (ends ++ (length lits + length c.args.lits.now) ∷ []) ls) (sym more)
-    (arena_more ends lits c.args.lits.now c.self.invariant c.requires))
-
-pub returns-clause-clauses : goal.returns-clause-clauses
-returns-clause-clauses c =
-    let ends = c.self.inside.ends.items in
-    let lits = c.self.inside.lits.items in
-    let more = c.in_ok-extend_from_slice.ensures.items in
-    let grown : length c.extend_from_slice.new.self.items ≡ length lits + length c.args.lits.now = ap length more ∙ length-append lits c.args.lits.now in
-    let size : c.len.result ≡ length lits + length c.args.lits.now = omega (arith, c.len.ensures, c.extend_from_slice.new.self.ok, grown) in
-    let put : c.push.new.self.items ≡ ends ++ (length lits + length c.args.lits.now) ∷ [] =
-    c.in-Ok.ensures.items ∙ ap (λ es. es ++ c.len.result ∷ []) c.in_ok-reserve.ensures.items ∙ ap (λ n. ends ++ n ∷ []) size in
-    (λ i. clauses_from 0 (put i) (more i)) ∙ clauses_more 0 ends lits c.args.lits.now c.self.invariant.ends_ ∙ ap (λ cs. cs ++ c.args.lits.now ∷ []) c.self.view_is
-
-pub returns-clause-number : goal.returns-clause-number
-returns-clause-number c =
-    let size : c.len-number.result ≡ length c.self.inside.ends.items = omega (arith, c.len-number.ensures, c.self.inside.ends.ok) in
-    size ∙ sym (count_is 0 c.self.inside.ends.items c.self.inside.lits.items) ∙ ap length c.self.view_is
+invariant_of-self-2 c = subst (All IsNormal) (sym c.in_ok-add.ensures.clauses) (All-push IsNormal _ c.args.lits.now c.self.invariant c.requires)

@@ -1,6 +1,6 @@
 use Rattle.std.proofs.Common.{◌≡◌, length, sym, ◌∙◌, ap, arith}
 use Rattle.clause_arena.proofs.Ends.{count_is}
-use Rattle.clause_arena.proofs.arena.Arena.len.Goals as goal
+use Rattle.clause_arena.proofs.store.Store.len.Goals as goal
 
 pub returns : goal.returns
 returns c =

@@ -1,0 +1,5 @@
+pub mod Ends
+pub mod Soundness
+pub mod Leading
+pub mod Scanning
+pub mod Keeps

@@ -1,0 +1,5 @@
+pub mod Following
+pub mod Refusing
+pub mod Left
+pub mod Keeping
+pub mod Marking

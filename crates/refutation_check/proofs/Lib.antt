@@ -1,4 +1,3 @@
-pub mod Ends
 pub mod Soundness
 pub mod Leading
 pub mod Scanning

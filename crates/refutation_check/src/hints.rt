@@ -8,7 +8,8 @@ ghost use Rattle.refutation_check.specs.Left.{IsLeft};
 ghost use Rattle.refutation_check.specs.Marking.{is_marked};
 
 use crate::marks::Marks;
-use crate::store::Store;
+
+use clause_arena::Store;
 use clause_base::Lit;
 
 /// Why a step is refused. Hints count from 0.

@@ -13,7 +13,6 @@ mod checker;
 mod hints;
 mod laws;
 mod marks;
-mod store;
 
 pub use checker::Checker;
 pub use hints::StepRefusal;

@@ -9,7 +9,7 @@ use Rattle.refutation_check.specs.Following.{IsNumber, numbered, HasFailed, IsUn
 use Rattle.refutation_check.specs.Refusing.{Leads, IsLost, IsStuck, IsClashless}
 use Rattle.refutation_check.proofs.Soundness.{no_both}
 
-one_unit : (fails : ℤ → Bool) (clause : List ℤ) (a b : ℤ) → IsUnit fails clause a → IsUnit fails clause b → a ≡ b
+pub one_unit : (fails : ℤ → Bool) (clause : List ℤ) (a b : ℤ) → IsUnit fails clause a → IsUnit fails clause b → a ≡ b
 one_unit fails clause a b first second = elim (All-contains (λ m. (m ≡ b) ⊎ (fails m ≡ true)) clause a second.others first.there) [
   | inl same ↦ same
   | inr failed ↦ no_both failed first.left

@@ -2,3 +2,4 @@ pub mod Soundness
 pub mod Leading
 pub mod Scanning
 pub mod Keeps
+pub mod Faults

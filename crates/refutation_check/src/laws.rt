@@ -1,8 +1,11 @@
 //! Laws of derivations.
 
-ghost use Rattle.std.specs.Prelude.{ℕ, ℤ, Bool, List, [], Contains};
+ghost use Rattle.std.specs.Prelude.{◌≡◌, ◌≢◌, ℕ, ℤ, Bool, List, [], Contains};
 ghost use Rattle.clause_base.specs.Solving.{IsTrueUnder, Solves};
 ghost use Rattle.refutation_check.specs.Following.{IsChoice, Follows, IsDerivation};
+ghost use Rattle.refutation_check.specs.Refusing.{IsRefused};
+
+use crate::hints::StepRefusal;
 
 /// A clause that follows is true wherever the earlier clauses are.
 pub fn following_is_true()
@@ -14,4 +17,10 @@ pub fn following_is_true()
 pub fn derivation_refutes()
     ensures { (clauses : List (List ℤ)) (lines : List (List ℤ × List ℕ)) (hints : List ℕ) (holds : ℤ → Bool) → IsDerivation clauses lines
         → Contains lines ([], hints) → IsChoice holds → Solves holds clauses → ⊥ }
+{}
+
+/// Hints have one first fault: a refusal other than for want of memory is determined by them.
+pub fn one_fault()
+    ensures { (earlier : List (List ℤ)) (fails : ℤ → Bool) (hints : List ℕ) (a b : StepRefusal) → a ≢ StepRefusal.NoMemory → b ≢ StepRefusal.NoMemory
+        → IsRefused earlier fails hints a → IsRefused earlier fails hints b → a ≡ b }
 {}

@@ -8,7 +8,6 @@ ghost use Rattle.refutation_check.specs.Keeping.{nothing_kept, with_axiom, with_
 
 use crate::hints::{StepRefusal, follow};
 use crate::marks::Marks;
-
 use clause_arena::Store;
 use clause_base::Lit;
 use std::alloc::{AllocError, Global};

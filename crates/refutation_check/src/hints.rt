@@ -8,7 +8,6 @@ ghost use Rattle.refutation_check.specs.Left.{IsLeft};
 ghost use Rattle.refutation_check.specs.Marking.{is_marked};
 
 use crate::marks::Marks;
-
 use clause_arena::Store;
 use clause_base::Lit;
 

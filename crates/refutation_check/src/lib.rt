@@ -4,7 +4,8 @@
 //! A clause follows by unit propagation: its literals are taken to be false, each hinted clause but the last then has
 //! one literal left, whose negation is taken to be false too, and the last has none left. The crate promises that
 //! `Checker::step` accepts exactly the clauses that follow, that a refusal names the first hint at fault, and that no
-//! values solve the given clauses once an empty clause was accepted. Its laws say the same of whole derivations, and that hints have one first fault.
+//! values solve the given clauses once an empty clause was accepted. Its laws say the same of whole derivations, and
+//! that hints have one first fault.
 //!
 //! The sinks of proof lines, the solver and the checker of reports stand on it.
 #![tactic(auto)]

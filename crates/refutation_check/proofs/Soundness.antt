@@ -8,7 +8,8 @@ use Rattle.std.proofs.lemmas.List.Elements.{All-push}
 use Rattle.std.proofs.lemmas.List.Folds.{Any-from_list_any, list_any_at}
 use Rattle.clause_base.specs.Literals.{is_in}
 use Rattle.clause_base.specs.Solving.{IsTrueUnder, Solves}
-use Rattle.refutation_check.specs.Following.{IsChoice, IsNumber, numbered, IsUnit, joined, Runs, Follows, IsDerivation}
+use Rattle.clause_base.specs.Teaching.{IsConsistent}
+use Rattle.refutation_check.specs.Following.{IsNumber, numbered, IsUnit, joined, Runs, Follows, IsDerivation}
 
 pub by_test : {P : Type 0} (b : Bool) → (b ≡ true → P) → (b ≡ false → P) → P
 by_test true t f = t refl
@@ -24,7 +25,7 @@ by_either false b is f g = g is
 pub same_lit : (a b : ℤ) → int_eq a b ≡ true → a ≡ b
 same_lit a b is = grind (arith, ints, nat_tests, is)
 
-module _ (holds : ℤ → Bool) (choice : IsChoice holds) where
+module _ (holds : ℤ → Bool) (choice : IsConsistent holds) where
   abbrev AllFalse : (ℤ → Bool) → Type 0
   AllFalse fails = (l : ℤ) → fails l ≡ true → holds l ≡ false
 

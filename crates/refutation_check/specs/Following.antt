@@ -4,10 +4,6 @@ use Rattle.std.specs.Prelude.{◌≡◌, ◌⊎◌, ℕ, ◌<◌, ◌≤◌, ◌
 use Rattle.std.specs.Ordering.{int_eq}
 use Rattle.clause_base.specs.Literals.{is_in}
 
--- a literal and its negation are never both true
-pub record IsChoice (holds : ℤ → Bool) : Type 0 where
-  pub apart : (l : ℤ) → holds l ≡ true → holds (neg_ℤ l) ≡ false
-
 -- a number of an earlier clause, from 1
 pub record IsNumber (earlier : List (List ℤ)) (hint : ℕ) : Type 0 where
   pub some : 0 < hint

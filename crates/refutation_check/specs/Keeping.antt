@@ -2,7 +2,7 @@
 use Rattle.std.specs.Prelude.{◌≡◌, ℕ, ℤ, Bool, true, false, ◌||◌, nat_eq, List, [], ◌∷◌, ◌++◌, length, All, Contains}
 use Rattle.clause_base.specs.Formulas.{IsOver}
 use Rattle.clause_base.specs.Solving.{Solves}
-use Rattle.refutation_check.specs.Following.{IsChoice}
+use Rattle.clause_base.specs.Teaching.{IsConsistent}
 
 -- The clauses that are kept, in their order, for each whether it was given and not derived, and whether an empty one
 -- was derived.
@@ -36,11 +36,11 @@ axioms_of kept = given_of kept.given kept.clauses
 
 -- no values make each of the clauses true
 abbrev pub AreUnsolvable : List (List ℤ) → Type 0
-AreUnsolvable clauses = (holds : ℤ → Bool) → IsChoice holds → Solves holds clauses → ⊥
+AreUnsolvable clauses = (holds : ℤ → Bool) → IsConsistent holds → Solves holds clauses → ⊥
 
 -- What a checker keeps true: whatever solves the given clauses solves all, and an empty one is there once it is closed.
 pub record IsKept (vars : ℕ) (clauses : List (List ℤ)) (given : List Bool) (closed : Bool) : Type 0 where
   pub over : All (IsOver vars) clauses
   pub paired : length given ≡ length clauses
-  pub sound : (holds : ℤ → Bool) → IsChoice holds → Solves holds (given_of given clauses) → Solves holds clauses
+  pub sound : (holds : ℤ → Bool) → IsConsistent holds → Solves holds (given_of given clauses) → Solves holds clauses
   pub empty : closed ≡ true → Contains clauses []

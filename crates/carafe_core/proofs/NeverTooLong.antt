@@ -1,14 +1,16 @@
--- The reader refuses no text as too long.
-use Rattle.std.proofs.Common.{◌≡◌, ◌⊎◌, inl, inr, ℕ, Bool, true, false, not, ◌&&◌, ◌==◌, List, [], ◌∷◌, Option, Some, None, if◌then◌else◌}
+-- The readers refuse no text as too long.
+use Rattle.std.proofs.Common.{◌≡◌, inl, inr, ℕ, Bool, true, false, not, ◌&&◌, ◌==◌, List, [], ◌∷◌, Option, Some, None, if◌then◌else◌}
 use Rattle.std.specs.Option.{option_or}
 use Rattle.std.specs.Prelude.{option_map}
 use Rattle.cif_grammar.specs.declared.spelled.Number.{Number}
-use Rattle.cif_grammar.specs.Grammar.{Placed, is_inside}
-use Rattle.cif_reader.specs.declared.refusal.CifRefusal.{CifRefusal}
+use Rattle.cif_grammar.specs.Grammar.{is_inside}
 use Rattle.cif_reader.specs.declared.refusal.CifRefusal.TheVariants.{CifTooLong, Syntax, NumberTooLarge, Unsupported, NotManhattan, NoLayer, TwiceDefined, ZeroScale, OffGrid, BadLabel, TooManyPoints}
 use Rattle.cif_reader.specs.declared.refusal.Feature.TheVariants.{Round, DefDelete}
-use Rattle.cif_reader.specs.Scope.{layer_behind, scale_behind}
-use Rattle.cif_reader.specs.Faults.{large_number, goes_far, has_many_points, is_manhattan, is_drawn, is_twice, has_zero_scale, is_off_grid, is_bad_label, is_delete, Refuses, end_fault}
+use Rattle.cif_reader.specs.Faults.{large_number, is_delete, Refuses, end_fault}
+use Rattle.layer_map.specs.declared.refusal.MapRefusal.TheVariants.{MapTooLong, BadLine, UnknownWire, Unbounded, TwiceNamed, NoSupplyLine, TooMany}
+use Rattle.layer_map.specs.declared.refusal.Side.TheVariants.{High, Low}
+use Rattle.layer_map.specs.Plan.{Plan}
+use Rattle.layer_map.specs.Faults.{IsLineFault, Refuses as RefusesMap}
 
 -- a chain of faults, each under its test
 number_chain : (o : Option Number) (at : ℕ) (a b c d e f g h : Bool)
@@ -37,3 +39,25 @@ end_never inside at (b ∷ bs) is = end_chain at (b == 69 && not inside) (b == 8
 pub never_too_long : (text : List ℕ) → Refuses text CifTooLong → ⊥
 never_too_long text (inl fault) = number_chain (large_number fault.command.what) fault.command.at _ _ _ _ _ _ _ _ fault.is
 never_too_long text (inr fault) = end_never (is_inside fault.commands) _ fault.rest fault.is
+
+-- ---- maps
+
+line_chain : (line : ℕ) (a b c d : Bool) → (if a then Some (TooMany line) else if b then Some (UnknownWire line) else if c then Some (TwiceNamed line) else if d then Some (Unbounded line) else None) ≡ Some MapTooLong → ⊥
+line_chain line true b c d is = cc
+line_chain line false true c d is = cc
+line_chain line false false true d is = cc
+line_chain line false false false true is = cc
+line_chain line false false false false is = cc
+
+supply_chain : (a b : Bool) → (if a then Some (NoSupplyLine High) else if b then Some (NoSupplyLine Low) else None) ≡ Some MapTooLong → ⊥
+supply_chain true b is = cc
+supply_chain false true is = cc
+supply_chain false false is = cc
+
+line_never : (line : ℕ) (known : Plan) (text : List ℕ) → IsLineFault line known text MapTooLong → ⊥
+line_never line known text (inl bad) = let same : MapTooLong ≡ BadLine line = bad.1 in cc
+line_never line known text (inr said) = line_chain line _ _ _ _ said.2
+
+pub map_never_too_long : (text : List ℕ) → RefusesMap text MapTooLong → ⊥
+map_never_too_long text (inl fault) = line_never _ _ fault.line fault.is
+map_never_too_long text (inr fault) = supply_chain _ _ fault.is

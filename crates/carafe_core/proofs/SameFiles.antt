@@ -1,6 +1,6 @@
 -- Files that one text spells draw and mark the same.
-use Rattle.std.proofs.Common.{◌≡◌, ℕ, Bool, true, false, ◌&&◌, List, [], ◌∷◌, ◌++◌, sym, ap, ◌∙◌, subst, if◌then◌else◌}
-use Rattle.std.specs.Prelude.{ℤ, bytes_eq}
+use Rattle.std.proofs.Common.{◌≡◌, ℕ, Bool, true, false, ◌&&◌, List, [], ◌∷◌, ◌++◌, sym, ◌∙◌, subst, if◌then◌else◌}
+use Rattle.std.specs.Prelude.{bytes_eq}
 use Rattle.std.specs.List.{flat_map, list_all}
 use Rattle.plane_geom.specs.declared.shapes.Rect.{Rect}
 use Rattle.cif_grammar.proofs.Walking.{one_spelling}
@@ -10,64 +10,64 @@ use Rattle.cif_reader.specs.declared.file.What.{What}
 use Rattle.cif_reader.specs.declared.file.What.TheVariants.{Draw, Call, Mark}
 use Rattle.cif_reader.specs.Reading.{Saying, drawn as a_figure, called as a_call, marked as a_label, Remark, said_outside, IsSaid, AreSaid, Accepts}
 use Rattle.carafe_core.specs.declared.nets.Mark as label
-use Rattle.carafe_core.specs.Drawing.{metal, box_in, is_box, drawn, boxes_of, marked, marks_of, is_simple, are_simple}
+use Rattle.carafe_core.specs.Drawing.{box_in, is_box, drawn, boxes_of, marked, marks_of, is_simple, are_simple}
 use Rattle.carafe_core.specs.Nets.{IsPlain}
 use Rattle.carafe_core.specs.Causes.{IsPlainFile}
 
 -- what each remark draws, marks, and is
 
-remark_drawn : Saying → List Rect
-remark_drawn (a_figure layer figure) = if bytes_eq layer metal then box_in figure else []
-remark_drawn (a_call symbol steps) = []
-remark_drawn (a_label name at layer) = []
+remark_drawn : List ℕ → Saying → List Rect
+remark_drawn on (a_figure layer figure) = if bytes_eq layer on then box_in figure else []
+remark_drawn on (a_call symbol steps) = []
+remark_drawn on (a_label name at layer) = []
 
 remark_marked : Saying → List label.Mark
 remark_marked (a_figure layer figure) = []
 remark_marked (a_call symbol steps) = []
 remark_marked (a_label name at layer) = record { name = name; at = at } ∷ []
 
-remark_simple : Saying → Bool
-remark_simple (a_figure layer figure) = if bytes_eq layer metal then is_box figure else true
-remark_simple (a_call symbol steps) = false
-remark_simple (a_label name at layer) = true
+remark_simple : List ℕ → Saying → Bool
+remark_simple on (a_figure layer figure) = if bytes_eq layer on then is_box figure else true
+remark_simple on (a_call symbol steps) = false
+remark_simple on (a_label name at layer) = true
 
-record IsLike (what : What) (saying : Saying) : Type 0 where
-  boxes : drawn what ≡ remark_drawn saying
+record IsLike (on : List ℕ) (what : What) (saying : Saying) : Type 0 where
+  boxes : drawn on what ≡ remark_drawn on saying
   marks : marked what ≡ remark_marked saying
-  simple : is_simple what ≡ remark_simple saying
+  simple : is_simple on what ≡ remark_simple on saying
 
-like : (what : What) (saying : Saying) → IsSaid what saying → IsLike what saying
+like : (on : List ℕ) (what : What) (saying : Saying) → IsSaid what saying → IsLike on what saying
 unfolding remark_drawn remark_marked remark_simple
-like (Draw on shape) (a_figure layer figure) is = record {
-  boxes = λ i. if bytes_eq (is.0 i) metal then box_in (is.1 i) else [];
+like on (Draw layer' shape) (a_figure layer figure) is = record {
+  boxes = λ i. if bytes_eq (is.0 i) on then box_in (is.1 i) else [];
   marks = λ i. [];
-  simple = λ i. if bytes_eq (is.0 i) metal then is_box (is.1 i) else true;
+  simple = λ i. if bytes_eq (is.0 i) on then is_box (is.1 i) else true;
 }
-like (Draw on shape) (a_call symbol steps) is = absurd is
-like (Draw on shape) (a_label name at layer) is = absurd is
-like (Call symbol place) (a_figure layer figure) is = absurd is
-like (Call symbol place) (a_call number steps) is = record { boxes = λ i. []; marks = λ i. []; simple = λ i. false }
-like (Call symbol place) (a_label name at layer) is = absurd is
-like (Mark name at on) (a_figure layer figure) is = absurd is
-like (Mark name at on) (a_call symbol steps) is = absurd is
-like (Mark name at on) (a_label text point layer) is = record {
+like on (Draw layer' shape) (a_call symbol steps) is = absurd is
+like on (Draw layer' shape) (a_label name at layer) is = absurd is
+like on (Call symbol place) (a_figure layer figure) is = absurd is
+like on (Call symbol place) (a_call number steps) is = record { boxes = λ i. []; marks = λ i. []; simple = λ i. false }
+like on (Call symbol place) (a_label name at layer) is = absurd is
+like on (Mark name at layer') (a_figure layer figure) is = absurd is
+like on (Mark name at layer') (a_call symbol steps) is = absurd is
+like on (Mark name at layer') (a_label text point layer) is = record {
   boxes = λ i. [];
   marks = λ i. record { name = is.0 i; at = is.1 i } ∷ [];
   simple = λ i. true;
 }
 
-record AreLike (items : List Item) (remarks : List Remark) : Type 0 where
-  boxes : boxes_of items ≡ flat_map (λ r. remark_drawn r.what) remarks
+record AreLike (on : List ℕ) (items : List Item) (remarks : List Remark) : Type 0 where
+  boxes : boxes_of on items ≡ flat_map (λ r. remark_drawn on r.what) remarks
   marks : marks_of items ≡ flat_map (λ r. remark_marked r.what) remarks
-  simple : are_simple items ≡ list_all (λ r. remark_simple r.what) remarks
+  simple : are_simple on items ≡ list_all (λ r. remark_simple on r.what) remarks
 
-all_like : (items : List Item) (remarks : List Remark) → AreSaid items remarks → AreLike items remarks
-all_like [] [] are = record { boxes = λ i. []; marks = λ i. []; simple = λ i. true }
-all_like [] (remark ∷ remarks) are = absurd are
-all_like (item ∷ items) [] are = absurd are
-all_like (item ∷ items) (remark ∷ remarks) are =
-    let one = like item.what remark.what are.1 in
-    let others = all_like items remarks are.2 in
+all_like : (on : List ℕ) (items : List Item) (remarks : List Remark) → AreSaid items remarks → AreLike on items remarks
+all_like on [] [] are = record { boxes = λ i. []; marks = λ i. []; simple = λ i. true }
+all_like on [] (remark ∷ remarks) are = absurd are
+all_like on (item ∷ items) [] are = absurd are
+all_like on (item ∷ items) (remark ∷ remarks) are =
+    let one = like on item.what remark.what are.1 in
+    let others = all_like on items remarks are.2 in
     record {
       boxes = λ i. one.boxes i ++ others.boxes i;
       marks = λ i. one.marks i ++ others.marks i;
@@ -75,13 +75,13 @@ all_like (item ∷ items) (remark ∷ remarks) are =
     }
 
 -- a file that the same text spells is plain where the other one is
-pub plain_same : (text : List ℕ) (file other : Contents) → Accepts text file → Accepts text other → IsPlainFile file → IsPlainFile other
-plain_same text file other here there plain =
+pub plain_same : (on text : List ℕ) (file other : Contents) → Accepts text file → Accepts text other → IsPlainFile on file → IsPlainFile on other
+plain_same on text file other here there plain =
     let commands = one_spelling text here.commands there.commands here.spelled there.spelled in
-    let first = all_like file.top (said_outside there.commands) (subst (λ cs. AreSaid file.top (said_outside cs)) commands here.top) in
-    let second = all_like other.top (said_outside there.commands) there.top in
+    let first = all_like on file.top (said_outside there.commands) (subst (λ cs. AreSaid file.top (said_outside cs)) commands here.top) in
+    let second = all_like on other.top (said_outside there.commands) there.top in
     record {
       simple = second.simple ∙ sym first.simple ∙ plain.simple;
       plain = subst (λ boxes. IsPlain boxes (marks_of other.top)) (first.boxes ∙ sym second.boxes)
-          (subst (λ marks. IsPlain (boxes_of file.top) marks) (first.marks ∙ sym second.marks) plain.plain);
+          (subst (λ marks. IsPlain (boxes_of on file.top) marks) (first.marks ∙ sym second.marks) plain.plain);
     }

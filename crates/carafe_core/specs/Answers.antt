@@ -8,24 +8,28 @@ use Rattle.probe_io.specs.Written.{Appends, AppendsFront}
 use Rattle.cif_reader.specs.declared.refusal.CifRefusal.{CifRefusal}
 use Rattle.cif_reader.specs.declared.refusal.CifRefusal.TheVariants.{CifTooLong, Syntax, NumberTooLarge, Unsupported, NotManhattan, NoLayer, TwiceDefined, ZeroScale, OffGrid, BadLabel, TooManyPoints, NoMemory as OutOfMemory}
 use Rattle.cif_reader.specs.declared.refusal.Feature.TheVariants.{Round, DefDelete}
+use Rattle.layer_map.specs.declared.refusal.MapRefusal.{MapRefusal}
+use Rattle.layer_map.specs.declared.refusal.MapRefusal.TheVariants.{MapTooLong, BadLine, UnknownWire, Unbounded, TwiceNamed, NoSupplyLine, TooMany, NoMemory as NoMapMemory}
+use Rattle.layer_map.specs.declared.refusal.Side.TheVariants.{High, Low}
 use Rattle.carafe_core.specs.declared.settings.WordRefusal.TheVariants.{Usage, BadSide}
 use Rattle.carafe_core.specs.declared.status.Which.{Which}
 use Rattle.carafe_core.specs.declared.status.Which.TheVariants.{Map, Cif}
 use Rattle.carafe_core.specs.declared.status.Stream.TheVariants.{Out, Diag}
 use Rattle.carafe_core.specs.declared.status.Refusal.{Refusal}
-use Rattle.carafe_core.specs.declared.status.Refusal.TheVariants.{Words, NotBuilt, Cif as OfCif}
+use Rattle.carafe_core.specs.declared.status.Refusal.TheVariants.{Words, NotBuilt, Map as OfMap, Cif as OfCif}
 use Rattle.carafe_core.specs.declared.status.Status.{Status}
 use Rattle.carafe_core.specs.declared.status.Status.TheVariants.{Done, Refused, OpenFault, ReadFault, WriteFault, NoMemory}
 use Rattle.carafe_core.specs.declared.layout.Layout.{Layout}
 use Rattle.carafe_core.specs.Report.{IsReport}
 use Rattle.carafe_core.specs.Settings.{Settings, name_in, ForSettings, IsWordCause}
-use Rattle.carafe_core.specs.Causes.{IsReportOf, Cause, IsNotBuilt, IsCifCause, IsReached}
+use Rattle.carafe_core.specs.Causes.{IsReportOf, Cause, IsNotBuilt, IsMapCause, IsCifCause, IsReached}
 
 -- the exit status of the program
 abbrev pub exit_of : Status → ℕ
 exit_of Done = 0
 exit_of (Refused (Words refusal)) = 3
 exit_of (Refused (NotBuilt which)) = 2
+exit_of (Refused (OfMap refusal)) = 2
 exit_of (Refused (OfCif refusal)) = 2
 exit_of (OpenFault which) = 4
 exit_of (ReadFault which) = 4
@@ -56,6 +60,18 @@ cif_line (BadLabel place) = place_line (codes "BadLabel") place
 cif_line (TooManyPoints place) = place_line (codes "TooManyPoints") place
 cif_line OutOfMemory = codes "carafe: NoMemory\n"
 
+-- the line of a refused map
+abbrev pub map_line : MapRefusal → List ℕ
+map_line MapTooLong = codes "carafe: MapTooLong\n"
+map_line (BadLine line) = place_line (codes "BadLine") line
+map_line (UnknownWire line) = place_line (codes "UnknownWire") line
+map_line (Unbounded line) = place_line (codes "Unbounded") line
+map_line (TwiceNamed line) = place_line (codes "TwiceNamed") line
+map_line (NoSupplyLine High) = codes "carafe: NoSupplyLine high\n"
+map_line (NoSupplyLine Low) = codes "carafe: NoSupplyLine low\n"
+map_line (TooMany line) = place_line (codes "TooMany") line
+map_line NoMapMemory = codes "carafe: NoMemory\n"
+
 -- the line on the diagnostics stream
 abbrev pub line_of : Status → List ℕ
 line_of Done = []
@@ -63,6 +79,7 @@ line_of (Refused (Words Usage)) = codes "carafe: Usage\n"
 line_of (Refused (Words BadSide)) = codes "carafe: BadSide\n"
 line_of (Refused (NotBuilt Map)) = codes "carafe: NotBuilt map\n"
 line_of (Refused (NotBuilt Cif)) = codes "carafe: NotBuilt cif\n"
+line_of (Refused (OfMap refusal)) = map_line refusal
 line_of (Refused (OfCif refusal)) = cif_line refusal
 line_of (OpenFault Map) = codes "carafe: OpenFault map\n"
 line_of (OpenFault Cif) = codes "carafe: OpenFault cif\n"
@@ -86,6 +103,17 @@ refused_as (ZeroScale place) = Refused (OfCif (ZeroScale place))
 refused_as (OffGrid place) = Refused (OfCif (OffGrid place))
 refused_as (BadLabel place) = Refused (OfCif (BadLabel place))
 refused_as (TooManyPoints place) = Refused (OfCif (TooManyPoints place))
+
+-- the status of a map that the reader refuses
+abbrev pub map_refused_as : MapRefusal → Status
+map_refused_as MapTooLong = Refused (OfMap MapTooLong)
+map_refused_as NoMapMemory = NoMemory
+map_refused_as (BadLine line) = Refused (OfMap (BadLine line))
+map_refused_as (UnknownWire line) = Refused (OfMap (UnknownWire line))
+map_refused_as (Unbounded line) = Refused (OfMap (Unbounded line))
+map_refused_as (TwiceNamed line) = Refused (OfMap (TwiceNamed line))
+map_refused_as (NoSupplyLine side) = Refused (OfMap (NoSupplyLine side))
+map_refused_as (TooMany line) = Refused (OfMap (TooMany line))
 
 -- a count of faults, before the call and after it
 pub record Count : Type 0 where
@@ -145,6 +173,7 @@ abbrev pub IsFileFailure : Shown → Status → Settings → Type 0
 IsFileFailure shelf Done settings = ⊥
 IsFileFailure shelf (Refused (Words refusal)) settings = ⊥
 IsFileFailure shelf (Refused (NotBuilt which)) settings = IsNotBuilt which shelf.files settings
+IsFileFailure shelf (Refused (OfMap refusal)) settings = IsMapCause refusal shelf.files settings
 IsFileFailure shelf (Refused (OfCif refusal)) settings = IsCifCause refusal shelf.files settings
 IsFileFailure shelf (OpenFault which) settings = IsOpenFault shelf which settings
 IsFileFailure shelf (ReadFault which) settings = IsReadFault shelf which settings
@@ -156,6 +185,7 @@ abbrev pub IsFailure : List (List ℕ) → Shown → Status → Type 0
 IsFailure words shelf Done = ⊥
 IsFailure words shelf (Refused (Words refusal)) = IsWordCause refusal words
 IsFailure words shelf (Refused (NotBuilt which)) = ForSettings words (λ settings. IsFileFailure shelf (Refused (NotBuilt which)) settings)
+IsFailure words shelf (Refused (OfMap refusal)) = ForSettings words (λ settings. IsFileFailure shelf (Refused (OfMap refusal)) settings)
 IsFailure words shelf (Refused (OfCif refusal)) = ForSettings words (λ settings. IsFileFailure shelf (Refused (OfCif refusal)) settings)
 IsFailure words shelf (OpenFault which) = ForSettings words (λ settings. IsFileFailure shelf (OpenFault which) settings)
 IsFailure words shelf (ReadFault which) = ForSettings words (λ settings. IsFileFailure shelf (ReadFault which) settings)
@@ -165,13 +195,13 @@ IsFailure words shelf NoMemory = Unit {0}
 -- the whole report on a layout was written
 pub record IsWritten (layout : Layout) (out : Text) : Type 0 where
   pub report_text : List ℕ
-  pub report : IsReport layout.side layout.boxes.items layout.marks.items report_text
+  pub report : IsReport layout.side layout.wire layout.boxes.items layout.marks.items report_text
   pub written : IsAppended out report_text
 
 -- the report sink failed in this call, and a front of the report on a layout was written
 pub record IsWrittenInPart (layout : Layout) (out : Text) (faults : Count) : Type 0 where
   pub report_text : List ℕ
-  pub report : IsReport layout.side layout.boxes.items layout.marks.items report_text
+  pub report : IsReport layout.side layout.wire layout.boxes.items layout.marks.items report_text
   pub written : IsFrontAppended out report_text
   pub failed : HasRisen faults
 

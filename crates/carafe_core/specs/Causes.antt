@@ -1,25 +1,26 @@
 -- What a report is made of, and why a call is refused. What is said here of a file is said where the shelf tells its
 -- files.
-use Rattle.std.specs.Prelude.{◌≡◌, ℕ, ◌≤◌, List, Bool, true, Option, codes, length}
+use Rattle.std.specs.Prelude.{◌≡◌, ℕ, ◌≤◌, List, true, Option, length}
 use Rattle.probe_io.specs.Files.{File, IsFile, IsFileOver}
 use Rattle.cif_reader.specs.declared.refusal.CifRefusal.{CifRefusal}
 use Rattle.cif_reader.specs.declared.refusal.CifRefusal.TheVariants.{CifTooLong, Syntax, NumberTooLarge, Unsupported, NotManhattan, NoLayer, TwiceDefined, ZeroScale, OffGrid, BadLabel, TooManyPoints, NoMemory}
 use Rattle.cif_reader.specs.Faults.{Refuses}
 use Rattle.cif_reader.specs.File.{Contents}
 use Rattle.cif_reader.specs.Reading.{Accepts}
+use Rattle.layer_map.specs.declared.refusal.MapRefusal.{MapRefusal}
+use Rattle.layer_map.specs.declared.refusal.MapRefusal.TheVariants.{MapTooLong, BadLine, UnknownWire, Unbounded, TwiceNamed, NoSupplyLine, TooMany, NoMemory as NoMapMemory}
+use Rattle.layer_map.specs.Plan.{Plan}
+use Rattle.layer_map.specs.Faults.{Accepts as AcceptsMap, Refuses as RefusesMap}
 use Rattle.carafe_core.specs.declared.status.Which.{Which}
 use Rattle.carafe_core.specs.declared.status.Which.TheVariants.{Map, Cif}
 use Rattle.carafe_core.specs.declared.status.Refusal.{Refusal}
-use Rattle.carafe_core.specs.declared.status.Refusal.TheVariants.{Words, NotBuilt, Cif as OfCif}
+use Rattle.carafe_core.specs.declared.status.Refusal.TheVariants.{Words, NotBuilt, Map as OfMap, Cif as OfCif}
 use Rattle.carafe_core.specs.Settings.{Settings, ForSettings, IsWordCause}
 use Rattle.carafe_core.specs.declared.layout.Layout.{Layout}
 use Rattle.carafe_core.specs.Drawing.{boxes_of, marks_of, are_simple}
+use Rattle.carafe_core.specs.OneWire.{Wire, IsOneWire}
 use Rattle.carafe_core.specs.Nets.{IsPlain}
 use Rattle.carafe_core.specs.Report.{IsReport}
-
--- the one layer map that is read so far
-abbrev pub thin_map : List ℕ
-thin_map = codes "wire metal CMF\nlabel CMF metal\nhigh Vdd\nlow GND\n"
 
 -- the most bytes of a file
 unfoldable pub longest : Which → ℕ
@@ -28,78 +29,122 @@ longest Cif = 16777216
 
 -- the refusal of a file that has more
 abbrev pub too_long : Which → Refusal
-too_long Map = NotBuilt Map
+too_long Map = OfMap MapTooLong
 too_long Cif = OfCif CifTooLong
 
--- The layout is one text that is not too long, and the map is the one that is read.
-pub record IsLayout (files : Option (List File)) (settings : Settings) (bytes : List ℕ) : Type 0 where
-  pub map_is : IsFile files settings.map thin_map
+-- ---- the map
+
+-- The map is one text that is not too long.
+pub record IsMap (files : Option (List File)) (settings : Settings) (bytes : List ℕ) : Type 0 where
+  pub map_is : IsFile files settings.map bytes
+  pub short : length bytes ≤ longest Map
+
+-- the map says this
+pub record HasPlan (files : Option (List File)) (settings : Settings) (plan : Plan) : Type 0 where
+  pub bytes : List ℕ
+  pub text : IsMap files settings bytes
+  pub accepts : AcceptsMap bytes plan
+
+-- the map has this wire alone
+pub record HasWire (files : Option (List File)) (settings : Settings) (wire : Wire) : Type 0 where
+  pub plan : Plan
+  pub has : HasPlan files settings plan
+  pub one : IsOneWire plan wire
+
+-- the map is refused for this fault, the first of its text
+pub record HasFaultyMap (files : Option (List File)) (settings : Settings) (fault : MapRefusal) : Type 0 where
+  pub bytes : List ℕ
+  pub text : IsMap files settings bytes
+  pub refuses : RefusesMap bytes fault
+
+-- the map has other lines than those of one wire
+pub record HasOtherMap (files : Option (List File)) (settings : Settings) : Type 0 where
+  pub plan : Plan
+  pub has : HasPlan files settings plan
+  pub other : (wire : Wire) → IsOneWire plan wire → ⊥
+
+-- what each refusal of the map says of it
+abbrev pub IsMapCause : MapRefusal → Option (List File) → Settings → Type 0
+IsMapCause MapTooLong files settings = IsFileOver files settings.map (longest Map)
+IsMapCause NoMapMemory files settings = ⊥
+IsMapCause (BadLine line) files settings = HasFaultyMap files settings (BadLine line)
+IsMapCause (UnknownWire line) files settings = HasFaultyMap files settings (UnknownWire line)
+IsMapCause (Unbounded line) files settings = HasFaultyMap files settings (Unbounded line)
+IsMapCause (TwiceNamed line) files settings = HasFaultyMap files settings (TwiceNamed line)
+IsMapCause (NoSupplyLine side) files settings = HasFaultyMap files settings (NoSupplyLine side)
+IsMapCause (TooMany line) files settings = HasFaultyMap files settings (TooMany line)
+
+-- ---- the layout
+
+-- The layout is one text that is not too long, and the map has this wire alone.
+pub record IsLayout (files : Option (List File)) (settings : Settings) (wire : Wire) (bytes : List ℕ) : Type 0 where
+  pub wired : HasWire files settings wire
   pub cif_is : IsFile files settings.cif bytes
   pub short : length bytes ≤ longest Cif
 
 -- and it spells this file
-pub record HasFile (files : Option (List File)) (settings : Settings) (file : Contents) : Type 0 where
+pub record HasFile (files : Option (List File)) (settings : Settings) (wire : Wire) (file : Contents) : Type 0 where
   pub bytes : List ℕ
-  pub layout : IsLayout files settings bytes
+  pub layout : IsLayout files settings wire bytes
   pub accepts : Accepts bytes file
 
--- Nothing is called, only boxes are drawn on metal, and the boxes and labels are plain.
-pub record IsPlainFile (file : Contents) : Type 0 where
-  pub simple : are_simple file.top ≡ true
-  pub plain : IsPlain (boxes_of file.top) (marks_of file.top)
+-- Nothing is called, only boxes are drawn on the layer, and the boxes and labels are plain.
+pub record IsPlainFile (layer : List ℕ) (file : Contents) : Type 0 where
+  pub simple : are_simple layer file.top ≡ true
+  pub plain : IsPlain (boxes_of layer file.top) (marks_of file.top)
 
 -- the layout spells this file, which is plain
-pub record HasPlainFile (files : Option (List File)) (settings : Settings) (file : Contents) : Type 0 where
-  pub spelled : HasFile files settings file
-  pub plain : IsPlainFile file
+pub record HasPlainFile (files : Option (List File)) (settings : Settings) (wire : Wire) (file : Contents) : Type 0 where
+  pub spelled : HasFile files settings wire file
+  pub plain : IsPlainFile wire.layer file
 
 -- the boxes and labels are those of the file
-pub record IsDrawnFrom (file : Contents) (layout : Layout) : Type 0 where
-  pub boxes_are : layout.boxes.items ≡ boxes_of file.top
+pub record IsDrawnFrom (layer : List ℕ) (file : Contents) (layout : Layout) : Type 0 where
+  pub boxes_are : layout.boxes.items ≡ boxes_of layer file.top
   pub marks_are : layout.marks.items ≡ marks_of file.top
-  pub plain : IsPlainFile file
+  pub plain : IsPlainFile layer file
 
 -- the layout is that of the files that the settings name
 pub record HasDrawn (files : Option (List File)) (settings : Settings) (layout : Layout) : Type 0 where
+  pub wire : Wire
   pub file : Contents
-  pub spelled : HasFile files settings file
-  pub drawn : IsDrawnFrom file layout
+  pub spelled : HasFile files settings wire file
+  pub drawn : IsDrawnFrom wire.layer file layout
+  pub wire_is : layout.wire ≡ wire.name
   pub side_is : layout.side ≡ settings.side
 
 -- the text is the report on the files that the settings name
 pub record IsReportOn (files : Option (List File)) (settings : Settings) (text : List ℕ) : Type 0 where
+  pub wire : Wire
   pub file : Contents
-  pub layout : HasPlainFile files settings file
-  pub report : IsReport settings.side (boxes_of file.top) (marks_of file.top) text
+  pub layout : HasPlainFile files settings wire file
+  pub report : IsReport settings.side wire.name (boxes_of wire.layer file.top) (marks_of file.top) text
 
 -- the text is the report that the words ask for
 abbrev pub IsReportOf : List (List ℕ) → Option (List File) → List ℕ → Type 0
 IsReportOf words files text = ForSettings words (λ settings. IsReportOn files settings text)
 
--- the map is another than the one that is read so far
-pub record HasOtherMap (files : Option (List File)) (settings : Settings) : Type 0 where
-  pub bytes : List ℕ
-  pub map_is : IsFile files settings.map bytes
-  pub other : bytes ≡ thin_map → ⊥
-
--- the map is the one that is read, and the layout has too many bytes
+-- the layout has too many bytes
 pub record HasLongLayout (files : Option (List File)) (settings : Settings) : Type 0 where
-  pub map_is : IsFile files settings.map thin_map
+  pub wire : Wire
+  pub wired : HasWire files settings wire
   pub long : IsFileOver files settings.cif (longest Cif)
 
 -- the layout is refused for this fault, the first of its text
 pub record HasFaultyLayout (files : Option (List File)) (settings : Settings) (fault : CifRefusal) : Type 0 where
+  pub wire : Wire
   pub bytes : List ℕ
-  pub layout : IsLayout files settings bytes
+  pub layout : IsLayout files settings wire bytes
   pub refuses : Refuses bytes fault
 
 -- the layout spells files, none of which is plain
 pub record HasOtherLayout (files : Option (List File)) (settings : Settings) : Type 0 where
+  pub wire : Wire
   pub bytes : List ℕ
-  pub layout : IsLayout files settings bytes
+  pub layout : IsLayout files settings wire bytes
   pub file : Contents
   pub accepts : Accepts bytes file
-  pub other : (file : Contents) → Accepts bytes file → IsPlainFile file → ⊥
+  pub other : (file : Contents) → Accepts bytes file → IsPlainFile wire.layer file → ⊥
 
 -- a file is of a form that is not read yet, and those that are read before it are not
 abbrev pub IsNotBuilt : Which → Option (List File) → Settings → Type 0
@@ -125,9 +170,15 @@ IsCifCause (TooManyPoints place) files settings = HasFaultyLayout files settings
 abbrev pub Cause : Refusal → List (List ℕ) → Option (List File) → Type 0
 Cause (Words refusal) words files = IsWordCause refusal words
 Cause (NotBuilt which) words files = ForSettings words (λ settings. IsNotBuilt which files settings)
+Cause (OfMap refusal) words files = ForSettings words (λ settings. IsMapCause refusal files settings)
 Cause (OfCif refusal) words files = ForSettings words (λ settings. IsCifCause refusal files settings)
+
+-- the map has one wire
+pub record IsWired (files : Option (List File)) (settings : Settings) : Type 0 where
+  pub wire : Wire
+  pub has : HasWire files settings wire
 
 -- no refusal stands before this file is read
 abbrev pub IsReached : Which → Option (List File) → Settings → Type 0
 IsReached Map files settings = Unit {0}
-IsReached Cif files settings = IsFile files settings.map thin_map
+IsReached Cif files settings = IsWired files settings

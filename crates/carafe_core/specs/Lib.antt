@@ -1,6 +1,7 @@
 pub mod Settings
 pub mod Spans
 pub mod Nets
+pub mod OneWire
 pub mod Drawing
 pub mod Ranking
 pub mod Report

@@ -23,25 +23,25 @@ header side nets labels bridges =
     concat (codes "carafe bridges 1\nside " ∷ decimal side ∷ codes "\nnets " ∷ decimal nets ∷ codes "\nlabels " ∷ decimal labels ∷ codes " 0 0\nbridges " ∷ decimal bridges ∷ codes "\n" ∷ [])
 
 -- the line of the bridge at this place in the list, from 1
-unfoldable pub bridge_line : List (List ℕ) → ℕ → Bridge → List ℕ
-bridge_line names place bridge =
-    concat (codes "bridge " ∷ decimal place ∷ codes " " ∷ name_at names bridge.a ∷ codes " " ∷ name_at names bridge.b ∷ codes " " ∷ decimal bridge.total ∷ codes " metal=" ∷ decimal bridge.total ∷ codes "\n" ∷ [])
+unfoldable pub bridge_line : List ℕ → List (List ℕ) → ℕ → Bridge → List ℕ
+bridge_line wire names place bridge =
+    concat (codes "bridge " ∷ decimal place ∷ codes " " ∷ name_at names bridge.a ∷ codes " " ∷ name_at names bridge.b ∷ codes " " ∷ decimal bridge.total ∷ codes " " ∷ wire ∷ codes "=" ∷ decimal bridge.total ∷ codes "\n" ∷ [])
 
-abbrev pub bridge_lines : List (List ℕ) → ℕ → List Bridge → List ℕ
-bridge_lines names place [] = []
-bridge_lines names place (bridge ∷ bridges) = bridge_line names place bridge ++ bridge_lines names (suc place) bridges
+abbrev pub bridge_lines : List ℕ → List (List ℕ) → ℕ → List Bridge → List ℕ
+bridge_lines wire names place [] = []
+bridge_lines wire names place (bridge ∷ bridges) = bridge_line wire names place bridge ++ bridge_lines wire names (suc place) bridges
 
 unfoldable pub tally : ℕ → List ℕ
 tally bridges = concat (codes "tally bridges " ∷ decimal bridges ∷ codes "\n" ∷ [])
 
--- the whole text, given the nets' names and the ranked list
-abbrev pub report_text : ℕ → List (List ℕ) → ℕ → List Bridge → List ℕ
-report_text side names labels ranked = header side (length names) labels (length ranked) ++ (bridge_lines names 1 ranked ++ tally (length ranked))
+-- the whole text, given the wire's name, the nets' names and the ranked list
+abbrev pub report_text : ℕ → List ℕ → List (List ℕ) → ℕ → List Bridge → List ℕ
+report_text side wire names labels ranked = header side (length names) labels (length ranked) ++ (bridge_lines wire names 1 ranked ++ tally (length ranked))
 
--- The text is the report on these boxes and labels, for a defect of so many hundredths of a micron on a side.
-pub record IsReport (side : ℕ) (boxes : List Rect) (marks : List Mark) (text : List ℕ) : Type 0 where
+-- The text is the report on these boxes and labels of the wire, for a defect of so many hundredths of a micron on a side.
+pub record IsReport (side : ℕ) (wire : List ℕ) (boxes : List Rect) (marks : List Mark) (text : List ℕ) : Type 0 where
   pub nets : List Rect
   pub numbered : AreNumbered boxes nets
   pub ranked : List Bridge
   pub ranks : IsRanked (2 * side) nets ranked
-  pub whole : text ≡ report_text side (names_from marks 0 nets) (length marks) ranked
+  pub whole : text ≡ report_text side wire (names_from marks 0 nets) (length marks) ranked

@@ -19,7 +19,12 @@ fn write_report<K: Sink>(alloc: Global, layout: Layout, out: &mut K) -> Status
     requires plain { IsPlain layout.boxes.items layout.marks.items }
     ensures { IsWriting layout (text (K.written out.old) (K.written out.new)) (count (K.faults out.old) (K.faults out.new)) result }
 {
-    let Layout { side, boxes, marks } = layout;
+    let Layout {
+        side,
+        wire,
+        boxes,
+        marks,
+    } = layout;
     let nets = numbered(boxes);
     let Ok(names) = net_names(alloc, nets.as_slice(), marks.as_slice()) else {
         return Status::NoMemory;
@@ -27,7 +32,14 @@ fn write_report<K: Sink>(alloc: Global, layout: Layout, out: &mut K) -> Status
     let Ok(ranked) = ranked_bridges(alloc, 2 * side, nets.as_slice()) else {
         return Status::NoMemory;
     };
-    match put_report(out, side, names.as_slice(), marks.len(), ranked.as_slice()) {
+    match put_report(
+        out,
+        side,
+        &wire,
+        names.as_slice(),
+        marks.len(),
+        ranked.as_slice(),
+    ) {
         Ok(()) => Status::Done,
         Err(_) => Status::WriteFault(Stream::Out),
     }

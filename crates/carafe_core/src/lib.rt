@@ -5,8 +5,9 @@
 //! in words and files, and a fault only where that device failed in the call; and it refuses, or reports, wherever it
 //! should, unless a device fails or no memory is found. `specs/Answers.antt` says so status by status.
 //!
-//! So far there is one command, `bridges MAP CIF SIDE`. It reads every layout, and reports on one layer map and on plain
-//! layouts, in which each box of metal is a net. The program `carafe_cli` stands on this crate.
+//! So far there is one command, `bridges MAP CIF SIDE`. It reads every map and every layout, and reports on maps of one
+//! wire and on plain layouts, in which each box of the wire's layer is a net. The program `carafe_cli` stands on this
+//! crate.
 #![tactic(auto)]
 
 mod answer;

@@ -40,15 +40,16 @@ fn put_header<K: Sink>(
 
 /// Writes the line of the bridge at this place in the list, from 1.
 #[tactic(auto, unfolding(crate::specs::Report::bridge_line))]
-fn put_bridge<K: Sink>(
+fn put_bridge<'a, K: Sink>(
     out: &mut K,
-    names: &[Label],
+    wire: &'a Label,
+    names: &'a [Label],
     place: usize,
     bridge: &Bridge,
 ) -> Result<(), Failed>
     requires between { IsBetween names.now bridge.now }
-    ensures ok { OnOk result (Appends (K.written out.old) (K.written out.new) (bridge_line names.now place bridge.now)) }
-    ensures front { OnErr result (AppendsFront (K.written out.old) (K.written out.new) (bridge_line names.now place bridge.now)) }
+    ensures ok { OnOk result (Appends (K.written out.old) (K.written out.new) (bridge_line wire.now names.now place bridge.now)) }
+    ensures front { OnErr result (AppendsFront (K.written out.old) (K.written out.new) (bridge_line wire.now names.now place bridge.now)) }
     ensures cause { HasCause (K.faults out.old) (K.faults out.new) result }
 {
     put_pieces(
@@ -62,7 +63,9 @@ fn put_bridge<K: Sink>(
             Piece::Text(names[bridge.b as usize].as_bytes()),
             Piece::Text(b" "),
             Piece::Number(bridge.total),
-            Piece::Text(b" metal="),
+            Piece::Text(b" "),
+            Piece::Text(wire.as_bytes()),
+            Piece::Text(b"="),
             Piece::Number(bridge.total),
             Piece::Text(b"\n"),
         ],
@@ -87,33 +90,39 @@ fn put_tally<K: Sink>(out: &mut K, bridges: usize) -> Result<(), Failed>
 }
 
 /// Writes the lines of the bridges.
-fn put_bridges<K: Sink>(out: &mut K, names: &[Label], ranked: &[Bridge]) -> Result<(), Failed>
+fn put_bridges<K: Sink>(
+    out: &mut K,
+    wire: &Label,
+    names: &[Label],
+    ranked: &[Bridge],
+) -> Result<(), Failed>
     requires between { All (IsBetween names.now) ranked.now }
-    ensures ok { OnOk result (Appends (K.written out.old) (K.written out.new) (bridge_lines names.now 1 ranked.now)) }
-    ensures front { OnErr result (AppendsFront (K.written out.old) (K.written out.new) (bridge_lines names.now 1 ranked.now)) }
+    ensures ok { OnOk result (Appends (K.written out.old) (K.written out.new) (bridge_lines wire.now names.now 1 ranked.now)) }
+    ensures front { OnErr result (AppendsFront (K.written out.old) (K.written out.new) (bridge_lines wire.now names.now 1 ranked.now)) }
     ensures cause { HasCause (K.faults out.old) (K.faults out.new) result }
 {
     for (i, bridge) in ranked.iter().enumerate() {
-        put_bridge(out, names, i + 1, bridge)?;
+        put_bridge(out, wire, names, i + 1, bridge)?;
     }
     Ok(())
 }
 
-/// Writes the whole report: `names` are the nets' names, `labels` is the number of labels, and `ranked` are the
+/// Writes the whole report: `wire` is the wire's name, `names` are the nets' names, `labels` is the number of labels, and `ranked` are the
 /// bridges in the order of their ranks.
 pub fn put_report<K: Sink>(
     out: &mut K,
     side: u32,
+    wire: &Label,
     names: &[Label],
     labels: usize,
     ranked: &[Bridge],
 ) -> Result<(), Failed>
     requires between { All (IsBetween names.now) ranked.now }
-    ensures ok { OnOk result (Appends (K.written out.old) (K.written out.new) (report_text side names.now labels ranked.now)) }
-    ensures front { OnErr result (AppendsFront (K.written out.old) (K.written out.new) (report_text side names.now labels ranked.now)) }
+    ensures ok { OnOk result (Appends (K.written out.old) (K.written out.new) (report_text side wire.now names.now labels ranked.now)) }
+    ensures front { OnErr result (AppendsFront (K.written out.old) (K.written out.new) (report_text side wire.now names.now labels ranked.now)) }
     ensures cause { HasCause (K.faults out.old) (K.faults out.new) result }
 {
     put_header(out, side, names.len(), labels, ranked.len())?;
-    put_bridges(out, names, ranked)?;
+    put_bridges(out, wire, names, ranked)?;
     put_tally(out, ranked.len())
 }

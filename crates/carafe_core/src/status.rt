@@ -3,10 +3,11 @@
 ghost use Rattle.std.specs.Prelude.{◌≡◌, OnOk, OnErr};
 ghost use Rattle.probe_io.specs.Causes.{HasCause};
 ghost use Rattle.probe_io.specs.Written.{Appends, AppendsFront};
-ghost use Rattle.carafe_core.specs.Answers.{exit_of, line_of, cif_line, place_line, unsupported_line};
+ghost use Rattle.carafe_core.specs.Answers.{exit_of, line_of, map_line, cif_line, place_line, unsupported_line};
 
 use crate::settings::WordRefusal;
 use cif_reader::{CifRefusal, Feature};
+use layer_map::{MapRefusal, Side};
 use probe_io::{Failed, Piece, Sink, put_all, put_pieces};
 
 /// A file that the words name.
@@ -32,6 +33,8 @@ pub enum Stream {
 pub enum Refusal {
     /// The words are no command.
     Words(WordRefusal),
+    /// The map's text is refused.
+    Map(MapRefusal),
     /// The layout's text is refused.
     Cif(CifRefusal),
     /// The file is of a form that is not read yet.
@@ -63,7 +66,7 @@ impl Status {
         match self {
             Status::Done => 0,
             Status::Refused(Refusal::Words(_)) => 3,
-            Status::Refused(Refusal::Cif(_) | Refusal::NotBuilt(_)) => 2,
+            Status::Refused(Refusal::Map(_) | Refusal::Cif(_) | Refusal::NotBuilt(_)) => 2,
             Status::OpenFault(_) | Status::ReadFault(_) => 4,
             Status::WriteFault(_) => 5,
             Status::NoMemory => 6,
@@ -86,6 +89,7 @@ impl Status {
                 diag,
                 b"carafe: BadSide\n",
             ),
+            Status::Refused(Refusal::Map(refusal)) => put_map_line(diag, refusal),
             Status::Refused(Refusal::Cif(refusal)) => put_cif_line(diag, refusal),
             Status::Refused(Refusal::NotBuilt(Which::Map)) => put_all(
                 diag,
@@ -102,6 +106,25 @@ impl Status {
             Status::WriteFault(Stream::Out) => put_all(diag, b"carafe: WriteFault out\n"),
             Status::NoMemory => put_all(diag, b"carafe: NoMemory\n"),
         }
+    }
+}
+
+/// Writes the line of a refused map.
+fn put_map_line<K: Sink>(diag: &mut K, refusal: &MapRefusal) -> Result<(), Failed>
+    ensures ok { OnOk result (Appends (K.written diag.old) (K.written diag.new) (map_line refusal.now)) }
+    ensures front { OnErr result (AppendsFront (K.written diag.old) (K.written diag.new) (map_line refusal.now)) }
+    ensures cause { HasCause (K.faults diag.old) (K.faults diag.new) result }
+{
+    match refusal {
+        MapRefusal::MapTooLong => put_all(diag, b"carafe: MapTooLong\n"),
+        MapRefusal::BadLine(line) => put_place(diag, b"BadLine", *line),
+        MapRefusal::UnknownWire(line) => put_place(diag, b"UnknownWire", *line),
+        MapRefusal::Unbounded(line) => put_place(diag, b"Unbounded", *line),
+        MapRefusal::TwiceNamed(line) => put_place(diag, b"TwiceNamed", *line),
+        MapRefusal::NoSupplyLine(Side::High) => put_all(diag, b"carafe: NoSupplyLine high\n"),
+        MapRefusal::NoSupplyLine(Side::Low) => put_all(diag, b"carafe: NoSupplyLine low\n"),
+        MapRefusal::TooMany(line) => put_place(diag, b"TooMany", *line),
+        MapRefusal::NoMemory => put_all(diag, b"carafe: NoMemory\n"),
     }
 }
 

@@ -1,6 +1,7 @@
-// The command on the layer map and layouts that it knows, through the top call.
+// The command on layer maps and layouts, through the top call.
 use crate::{Refusal, Status, Stream, Which, WordRefusal, carafe};
 use cif_reader::{CifRefusal, Feature};
+use layer_map::{MapRefusal, Side};
 use probe_io::{MemShelf, MemSink, Name};
 use std::alloc::{AllocError, Global};
 use std::test::Fail;
@@ -56,8 +57,19 @@ struct Ending {
     diag: MemSink,
 }
 
-/// Calls `carafe` with words that stand with single spaces, on the files `map`, `cif` and `other`.
+/// Calls `carafe` with words that stand with single spaces, on a map of one wire and this layout.
 fn call(alloc: Global, words: &str, cif: &str, faults: &Faults) -> Result<Ending, AllocError> {
+    call_on(alloc, words, MAP, cif, faults)
+}
+
+/// Calls `carafe` with words that stand with single spaces, on the files `map` and `cif`.
+fn call_on(
+    alloc: Global,
+    words: &str,
+    map: &str,
+    cif: &str,
+    faults: &Faults,
+) -> Result<Ending, AllocError> {
     let mut list = Vec::new(alloc);
     for word in words.split(' ') {
         if !word.is_empty() {
@@ -67,15 +79,11 @@ fn call(alloc: Global, words: &str, cif: &str, faults: &Faults) -> Result<Ending
     let mut files = Vec::new(alloc);
     files.push((
         Name::new(alloc, "map")?,
-        Vec::from_slice(alloc, MAP.as_bytes())?,
+        Vec::from_slice(alloc, map.as_bytes())?,
     ))?;
     files.push((
         Name::new(alloc, "cif")?,
         Vec::from_slice(alloc, cif.as_bytes())?,
-    ))?;
-    files.push((
-        Name::new(alloc, "other")?,
-        Vec::from_slice(alloc, b"wire metal CMF\n")?,
     ))?;
     let step = if faults.step == 0 { 1 } else { faults.step };
     let mut shelf = MemShelf::new(files, Vec::from_slice(alloc, faults.shelf)?, step);
@@ -147,7 +155,6 @@ fn reports_are_whole(rt: HostRuntime) -> Result<(), Fail> {
 fn refusals_come_in_order(rt: HostRuntime) -> Result<(), Fail> {
     let usage = (Refusal::Words(WordRefusal::Usage), "carafe: Usage\n", 3);
     let side = (Refusal::Words(WordRefusal::BadSide), "carafe: BadSide\n", 3);
-    let map = (Refusal::NotBuilt(Which::Map), "carafe: NotBuilt map\n", 2);
     let cif = (Refusal::NotBuilt(Which::Cif), "carafe: NotBuilt cif\n", 2);
     let rows = [
         ("", TWO_BOXES, usage),
@@ -159,8 +166,7 @@ fn refusals_come_in_order(rt: HostRuntime) -> Result<(), Fail> {
         ("bridges map cif 32769", TWO_BOXES, side),
         ("bridges map cif 03", TWO_BOXES, side),
         ("bridges map cif +3", TWO_BOXES, side),
-        ("bridges other absent x", TWO_BOXES, side),
-        ("bridges other absent 3", TWO_BOXES, map),
+        ("bridges absent absent x", TWO_BOXES, side),
         ("bridges map cif 3", CALLED, cif),
         ("bridges map cif 3", DRAWN_ROUND, cif),
         ("bridges map cif 3", FAR, cif),
@@ -175,6 +181,95 @@ fn refusals_come_in_order(rt: HostRuntime) -> Result<(), Fail> {
         assert_eq!(rt; ending.diag.bytes(), line.as_bytes(), "{words}");
         assert_eq!(rt; ending.out.bytes().len(), 0, "{words}");
     }
+    Ok(())
+}
+
+/// Maps, why each is refused, and the line that says so.
+const OTHER_MAPS: [(&str, Refusal, &str); 12] = [
+    (
+        "wire metal CMF\n",
+        Refusal::Map(MapRefusal::NoSupplyLine(Side::High)),
+        "carafe: NoSupplyLine high\n",
+    ),
+    (
+        "wire metal CMF\nhigh Vdd\n",
+        Refusal::Map(MapRefusal::NoSupplyLine(Side::Low)),
+        "carafe: NoSupplyLine low\n",
+    ),
+    (
+        "# metal\nwire metal\nhigh Vdd\nlow GND\n",
+        Refusal::Map(MapRefusal::BadLine(2)),
+        "carafe: BadLine 2\n",
+    ),
+    (
+        "wire metal CMF\nhigh Vdd\nlow GND\ncut CVA: m1 metal\n",
+        Refusal::Map(MapRefusal::UnknownWire(4)),
+        "carafe: UnknownWire 4\n",
+    ),
+    (
+        "wire metal !CMF\nhigh Vdd\nlow GND\n",
+        Refusal::Map(MapRefusal::Unbounded(1)),
+        "carafe: Unbounded 1\n",
+    ),
+    (
+        "wire metal CMF\nhigh a\nlow a\n",
+        Refusal::Map(MapRefusal::TwiceNamed(3)),
+        "carafe: TwiceNamed 3\n",
+    ),
+    (
+        "wire metal !!!!!!!!!!!!!!!!!!!!!!!!!!!!!!!!!CMF\nhigh Vdd\nlow GND\n",
+        Refusal::Map(MapRefusal::TooMany(1)),
+        "carafe: TooMany 1\n",
+    ),
+    (
+        "wire m1 CMF\nwire m2 CMS\nhigh Vdd\nlow GND\n",
+        Refusal::NotBuilt(Which::Map),
+        "carafe: NotBuilt map\n",
+    ),
+    (
+        "wire metal CMF*CM2\nhigh Vdd\nlow GND\n",
+        Refusal::NotBuilt(Which::Map),
+        "carafe: NotBuilt map\n",
+    ),
+    (
+        "wire metal CMF\ncut CVA: metal\nhigh Vdd\nlow GND\n",
+        Refusal::NotBuilt(Which::Map),
+        "carafe: NotBuilt map\n",
+    ),
+    (
+        "wire metal CMF\nfet n CPG gate metal diff metal\nhigh Vdd\nlow GND\n",
+        Refusal::NotBuilt(Which::Map),
+        "carafe: NotBuilt map\n",
+    ),
+    (
+        "wire metal CMF\nhigh Vdd Vcc\nlow GND\n",
+        Refusal::NotBuilt(Which::Map),
+        "carafe: NotBuilt map\n",
+    ),
+];
+
+#[test]
+fn maps_are_refused_at_their_line(rt: HostRuntime) -> Result<(), Fail> {
+    for (map, refusal, line) in OTHER_MAPS {
+        let ending = call_on(rt.alloc(), "bridges map absent 3", map, "", &NONE)?;
+        assert_eq!(rt; ending.status, Status::Refused(refusal), "{map}");
+        assert_eq!(rt; ending.status.exit_number(), 2, "{map}");
+        assert_eq!(rt; ending.diag.bytes(), line.as_bytes(), "{map}");
+        assert_eq!(rt; ending.out.bytes().len(), 0, "{map}");
+    }
+    Ok(())
+}
+
+#[test]
+fn a_wire_has_its_name_and_layer(rt: HostRuntime) -> Result<(), Fail> {
+    let map = "# one wire\n\twire m1 (M1)\nlow VSS\n\nhigh VDD";
+    let cif = "L M1; B 10 10 5 5; L CMF; B 9 9 5 5; L M1; B 10 10 17 5; 94 VDD 5 5; E";
+    let report =
+        "carafe bridges 1\nside 3\nnets 2\nlabels 1 0 0\nbridges 1\nbridge 1 VDD #1 25 m1=25\ntally bridges 1\n";
+    let ending = call_on(rt.alloc(), "bridges map cif 3", map, cif, &NONE)?;
+    assert_eq!(rt; ending.status, Status::Done);
+    assert_eq!(rt; ending.out.bytes(), report.as_bytes());
+    assert_eq!(rt; ending.diag.bytes().len(), 0);
     Ok(())
 }
 

@@ -7,6 +7,6 @@ pub returns-clause-failure : goal.returns-clause-failure
 returns-clause-failure g c =
     let files = g.H.Shelf.files c.args.shelf.now in
     let shelf = shown files (g.H.Shelf.start_faults c.args.shelf.now) (g.H.Shelf.start_faults c.read_file.new.shelf) (g.H.Shelf.read_faults c.args.shelf.now) (g.H.Shelf.read_faults c.read_file.new.shelf) in
-    fault_failure shelf (settings_of c.args.settings.now) c.in_ok-bytes.bytes.items c.in-Err.refusal c.refused.result c.refused.ensures
-    (record { map_is = c.requires.reached; cif_is = c.in_ok-bytes.ensures.file; short = c.in_ok-bytes.ensures.short })
+    fault_failure shelf (settings_of c.args.settings.now) c.args.wire.now c.in_ok-bytes.bytes.items c.in-Err.refusal c.refused.result c.refused.ensures
+    (record { wired = c.requires.wired; cif_is = c.in_ok-bytes.ensures.file; short = c.in_ok-bytes.ensures.short })
     (by_bytes c.as_slice.ensures.value c.in-Err.ensures.refused)

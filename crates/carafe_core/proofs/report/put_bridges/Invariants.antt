@@ -5,6 +5,6 @@ use Rattle.carafe_core.proofs.report.put_bridges.Given as goal
 
 abbrev pub invariant-loop-i : goal.invariant-loop-i
 invariant-loop-i g l = record {
-  written : Appends (g.K.Sink.written l.fn.out) (g.K.Sink.written l.out) (bridge_lines l.names 1 (take l.i l.ranked));
+  written : Appends (g.K.Sink.written l.fn.out) (g.K.Sink.written l.out) (bridge_lines l.wire l.names 1 (take l.i l.ranked));
   later : g.K.Sink.faults l.fn.out ≤ g.K.Sink.faults l.out;
 }

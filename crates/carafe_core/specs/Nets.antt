@@ -1,4 +1,4 @@
--- The nets of a plain layout, in which each box of metal is a net, with their numbers and names.
+-- The nets of a plain layout, in which each box is a net, with their numbers and names.
 use Rattle.std.specs.Prelude.{◌≡◌, ◌≢◌, ℕ, suc, ◌≤◌, ◌^◌, ℤ, pos, ◌+ℤ◌, ◌-ℤ◌, ◌<ℤ◌, Bool, true, ◌&&◌, ◌||◌, if◌then◌else◌, Option, Some, None, unwrap_or, List, [], ◌∷◌, ◌++◌, length, map, filter, fold, codes, All, AllPairs, IsPermutation, IsSorted}
 use Rattle.std.specs.List.{list_any}
 use Rattle.std.specs.declared.cmp.Ordering.{Ordering}

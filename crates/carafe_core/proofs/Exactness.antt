@@ -88,7 +88,7 @@ same_wires p w v here there =
     let layers : w.layer ≡ v.layer = ap first_layer (sym here.wires ∙ there.wires) in
     λ i. record { name = names i; layer = layers i }
 
-one_wire : {words : List (List ℕ)} {s t : Settings} (list : List File) (w v : Wire) → IsSettings words s → IsSettings words t → HasWire (Some list) s w → HasWire (Some list) t v → w ≡ v
+pub one_wire : {words : List (List ℕ)} {s t : Settings} (list : List File) (w v : Wire) → IsSettings words s → IsSettings words t → HasWire (Some list) s w → HasWire (Some list) t v → w ≡ v
 one_wire list w v a b here there = same_wires there.plan w v (subst (λ p. IsOneWire p w) (one_plan list here.plan there.plan a b here.has there.has) here.one) there.one
 
 -- a map has one wire, or other lines
@@ -127,7 +127,7 @@ map_one_reason list r q a b (map_fault faulty) (map_fault other) =
 -- ---- the layout
 
 -- a name has one layout
-one_text : {words : List (List ℕ)} {s t : Settings} {w v : Wire} (list : List File) (x y : List ℕ) → IsSettings words s → IsSettings words t → IsLayout (Some list) s w x → IsLayout (Some list) t v y → x ≡ y
+pub one_text : {words : List (List ℕ)} {s t : Settings} {w v : Wire} (list : List File) (x y : List ℕ) → IsSettings words s → IsSettings words t → IsLayout (Some list) s w x → IsLayout (Some list) t v y → x ≡ y
 one_text {s = s} {t = t} list x y a b here there = same_file list s.cif t.cif x y (same_cif a b) here.cif_is there.cif_is
 
 one_length : {words : List (List ℕ)} {s t : Settings} {w : Wire} (list : List File) (x : List ℕ) → IsSettings words s → IsSettings words t → HasLongLayout (Some list) s → IsLayout (Some list) t w x → ⊥

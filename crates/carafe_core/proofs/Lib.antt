@@ -9,3 +9,5 @@ pub mod RangeFacts
 pub mod Exactness
 pub mod SameFiles
 pub mod NeverTooLong
+pub mod OneOrder
+pub mod OneReport

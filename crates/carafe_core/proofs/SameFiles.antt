@@ -74,14 +74,28 @@ all_like on (item ∷ items) (remark ∷ remarks) are =
       simple = λ i. one.simple i && others.simple i;
     }
 
--- a file that the same text spells is plain where the other one is
-pub plain_same : (on text : List ℕ) (file other : Contents) → Accepts text file → Accepts text other → IsPlainFile on file → IsPlainFile on other
-plain_same on text file other here there plain =
+-- two files that one text spells draw and mark the same
+pub record AreAlike (on : List ℕ) (file other : Contents) : Type 0 where
+  pub boxes : boxes_of on file.top ≡ boxes_of on other.top
+  pub marks : marks_of file.top ≡ marks_of other.top
+  pub simple : are_simple on file.top ≡ are_simple on other.top
+
+pub files_alike : (on text : List ℕ) (file other : Contents) → Accepts text file → Accepts text other → AreAlike on file other
+files_alike on text file other here there =
     let commands = one_spelling text here.commands there.commands here.spelled there.spelled in
     let first = all_like on file.top (said_outside there.commands) (subst (λ cs. AreSaid file.top (said_outside cs)) commands here.top) in
     let second = all_like on other.top (said_outside there.commands) there.top in
     record {
-      simple = second.simple ∙ sym first.simple ∙ plain.simple;
-      plain = subst (λ boxes. IsPlain boxes (marks_of other.top)) (first.boxes ∙ sym second.boxes)
-          (subst (λ marks. IsPlain (boxes_of on file.top) marks) (first.marks ∙ sym second.marks) plain.plain);
+      boxes = first.boxes ∙ sym second.boxes;
+      marks = first.marks ∙ sym second.marks;
+      simple = first.simple ∙ sym second.simple;
+    }
+
+-- a file that the same text spells is plain where the other one is
+pub plain_same : (on text : List ℕ) (file other : Contents) → Accepts text file → Accepts text other → IsPlainFile on file → IsPlainFile on other
+plain_same on text file other here there plain =
+    let alike = files_alike on text file other here there in
+    record {
+      simple = sym alike.simple ∙ plain.simple;
+      plain = subst (λ boxes. IsPlain boxes (marks_of other.top)) alike.boxes (subst (λ marks. IsPlain (boxes_of on file.top) marks) alike.marks plain.plain);
     }

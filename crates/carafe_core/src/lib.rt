@@ -3,7 +3,8 @@
 //! The promise stands on the one call `carafe`. Over every list of words and every content of the files it answers
 //! `Done` only with the whole report written, `Refused` only where the cause of that refusal is the first that stands
 //! in words and files, and a fault only where that device failed in the call; and it refuses, or reports, wherever it
-//! should, unless a device fails or no memory is found. `specs/Answers.antt` says so status by status.
+//! should, unless a device fails or no memory is found. `specs/Answers.antt` says so status by status. Words and files
+//! have one report or one refusal at most: the law `one_answer`.
 //!
 //! So far there is one command, `bridges MAP CIF SIDE`. It reads every map and every layout, and reports on maps of one
 //! wire and on plain layouts, in which each box of the wire's layer is a net. The program `carafe_cli` stands on this
@@ -11,6 +12,7 @@
 #![tactic(auto)]
 
 mod answer;
+mod laws;
 mod layout;
 mod nets;
 mod ranking;
@@ -19,6 +21,7 @@ mod settings;
 mod status;
 
 pub use answer::carafe;
+pub use laws::one_answer;
 pub use settings::WordRefusal;
 pub use status::{Refusal, Status, Stream, Which};
 

@@ -1,0 +1,4 @@
+pub mod Reaches
+pub mod Layering
+pub mod Evaluating
+pub mod Lines

@@ -13,6 +13,8 @@
 
 mod evaluation;
 mod layers;
+#[cfg(test)]
+mod tests;
 mod values;
 
 pub use evaluation::evaluate;

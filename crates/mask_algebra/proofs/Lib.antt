@@ -1,3 +1,4 @@
+pub mod Drawn
 pub mod Reaches
 pub mod Layering
 pub mod Evaluating

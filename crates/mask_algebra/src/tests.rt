@@ -1,7 +1,9 @@
 //! Masks of small layouts.
 
-ghost use Rattle.std.specs.Prelude.{◌≡◌, ◌^◌, true, if◌then◌else◌, OnOk, IfOk};
+ghost use Rattle.std.specs.Prelude.{◌^◌, OnOk, IfOk};
 ghost use Rattle.std.specs.List.{All};
+ghost use Rattle.plane_geom.specs.Bounds.{IsPointWithin, IsRectWithin};
+ghost use Rattle.plane_geom.specs.Covering.{IsOutline, IsRect};
 ghost use Rattle.cif_flatten.specs.Flat.{IsShapeWithin};
 
 use crate::evaluate;
@@ -15,23 +17,29 @@ use std::test::Fail;
 /// A box on a layer: the lower left corner, the width and the height.
 type Drawn = (&'static str, i8, i8, u8, u8);
 
+/// The rectangle of a box.
+fn rect(x: i8, y: i8, width: u8, height: u8) -> Rect
+    ensures formed { IsRect result }
+    ensures within { IsRectWithin (2 ^ 24) result }
+{
+    let x0 = x as i64;
+    let y0 = y as i64;
+    let x1 = x0 + width as i64;
+    let y1 = y0 + height as i64;
+    Rect { x0, y0, x1, y1 }
+}
+
 /// A box.
 fn block(x: i8, y: i8, width: u8, height: u8) -> Shape
     ensures { IsShapeWithin (2 ^ 24) result }
 {
-    let x0 = x as i64;
-    let y0 = y as i64;
-    Shape::Block(Rect {
-        x0,
-        y0,
-        x1: x0 + width as i64,
-        y1: y0 + height as i64,
-    })
+    Shape::Block(rect(x, y, width, height))
 }
 
-/// A polygon that covers a square of 2 at (0, 0), and three by two cells at (2, 2).
-fn crossed(alloc: Global) -> Result<Shape, AllocError>
-    ensures { IfOk result (λ s. IsShapeWithin (2 ^ 24) s) }
+/// The points of an outline that crosses itself at (2, 2).
+fn crossing(alloc: Global) -> Result<Vec<Point>, AllocError>
+    ensures formed { IfOk result (λ v. IsOutline v.items) }
+    ensures within { IfOk result (λ v. All (IsPointWithin (2 ^ 24)) v.items) }
 {
     let mut points = Vec::new(alloc);
     points.push(Point { x: 0, y: 0 })?;
@@ -40,6 +48,14 @@ fn crossed(alloc: Global) -> Result<Shape, AllocError>
     points.push(Point { x: 5, y: 4 })?;
     points.push(Point { x: 5, y: 2 })?;
     points.push(Point { x: 0, y: 2 })?;
+    Ok(points)
+}
+
+/// A polygon that covers a square of 2 at (0, 0), and three by two cells at (2, 2).
+fn crossed(alloc: Global) -> Result<Shape, AllocError>
+    ensures { IfOk result (λ s. IsShapeWithin (2 ^ 24) s) }
+{
+    let points = crossing(alloc)?;
     Ok(Shape::Polygon(points))
 }
 

@@ -1,6 +1,6 @@
 -- Shapes that lie within a bound.
 use Rattle.std.proofs.Common.{◌^◌, ◌<◌, List, [], ◌∷◌, length, arith, Vec, Global}
-use Rattle.std.specs.Prelude.{ℤ, pos, neg_ℤ}
+use Rattle.std.specs.Prelude.{pos, neg_ℤ}
 use Rattle.std.specs.List.{All}
 use Rattle.std.proofs.lemmas.Int.{ints}
 use Rattle.std.proofs.lemmas.List.Elements.{All-head, All-weaker}

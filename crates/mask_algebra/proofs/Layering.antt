@@ -1,25 +1,22 @@
 -- The regions of layers.
-use Rattle.std.proofs.Common.{◌≡◌, ℕ, ◌+◌, ◌<◌, ◌^◌, Bool, true, false, ◌||◌, ◌&&◌, List, [], ◌∷◌, ◌++◌, length, take, get_or, refl, sym, ap, subst, ◌∙◌, arith}
+use Rattle.std.proofs.Common.{◌≡◌, ℕ, ◌+◌, ◌<◌, ◌^◌, Bool, true, false, ◌||◌, ◌&&◌, List, length, take, get_or, sym, ◌∙◌, arith}
 use Rattle.std.specs.Prelude.{ℤ}
 use Rattle.std.specs.List.{All, list_any}
 use Rattle.std.specs.Str.{bytes_eq}
 use Rattle.std.proofs.Math.Bool.{or-false}
 use Rattle.std.proofs.lemmas.Int.{ints}
-use Rattle.std.proofs.lemmas.List.{length-append}
-use Rattle.std.proofs.lemmas.List.Elements.{All-push, All-weaker}
+use Rattle.std.proofs.lemmas.List.Elements.{All-weaker}
 use Rattle.std.proofs.lemmas.List.Folds.{list_any_more}
-use Rattle.std.proofs.Math.Seq.{get_or-append_seam}
 use Rattle.plane_geom.specs.declared.shapes.Rect.{Rect}
 use Rattle.plane_geom.specs.Bounds.{IsRectWithin}
 use Rattle.plane_geom.specs.Cells.{is_in_rects}
 use Rattle.plane_geom.specs.Covering.{figure_of, covers}
 use Rattle.cif_flatten.specs.declared.flat.Draw.{Draw}
 use Rattle.mask_region.specs.declared.strips.Strip.{Strip}
-use Rattle.mask_region.specs.Strips.{is_in, IsCellWithin}
+use Rattle.mask_region.specs.Strips.{is_in}
 use Rattle.mask_region.proofs.Within.{rects_cell}
-use Rattle.mask_algebra.specs.declared.layers.Layer.{Layer}
 use Rattle.mask_algebra.specs.Masks.{layer_covers}
-use Rattle.mask_algebra.specs.Layers.{IsLayer, AreLayers, IsNamedAt, IsLayerAt, layer_at, no_layer, AreCut}
+use Rattle.mask_algebra.specs.Layers.{IsLayer, AreCut}
 
 -- ---- the rectangles of a layer
 
@@ -63,22 +60,4 @@ layer_is draws name rects region cut within cells =
     record {
       cells = λ x y. cells x y ∙ cut x y;
       near = λ x y covered. rects_cell (2 ^ 24) rects x y within (cut x y ∙ covered);
-    }
-
-pub layers_more : (draws : List Draw) (name : List ℕ) (region : List Strip) (layers : List Layer) → AreLayers draws layers → IsLayer draws name region → AreLayers draws (layers ++ record { name = name; region = region } ∷ [])
-layers_more draws name region layers h layer =
-    record { each = All-push (λ (l : Layer). IsLayer draws l.name l.region) layers (record { name = name; region = region }) h.each layer }
-
-pub layer_last : (draws : List Draw) (name : List ℕ) (region : List Strip) (layers : List Layer) → IsLayer draws name region → IsLayerAt draws name (layers ++ record { name = name; region = region } ∷ []) (length layers)
-layer_last draws name region layers layer =
-    record {
-      in_range = omega (arith, length-append layers (record { name = name; region = region } ∷ []));
-      layer = rw (get_or-append_seam layers (record { name = name; region = region }) [] no_layer) layer;
-    }
-
-pub layer_found : (draws : List Draw) (name : List ℕ) (layers : List Layer) (k : ℕ) → AreLayers draws layers → IsNamedAt name layers k → IsLayerAt draws name layers k
-layer_found draws name layers k h at =
-    record {
-      in_range = at.in_range;
-      layer = subst (λ n. IsLayer draws n (layer_at layers k).region) at.named (h.each k no_layer at.in_range);
     }

@@ -3,3 +3,4 @@ pub mod Reaches
 pub mod Layering
 pub mod Evaluating
 pub mod Lines
+pub mod Worked

@@ -1,5 +1,5 @@
 -- The masks of the lines of a map, one by one.
-use Rattle.std.proofs.Common.{◌≡◌, ℕ, ◌+◌, ◌<◌, ◌^◌, false, List, [], ◌∷◌, ◌++◌, refl, length, map, take, get_or, subst, sym, ap, ◌∙◌}
+use Rattle.std.proofs.Common.{◌≡◌, ℕ, ◌+◌, ◌<◌, ◌^◌, List, [], ◌∷◌, ◌++◌, refl, length, map, take, get_or, subst, sym, ap, ◌∙◌}
 use Rattle.std.specs.List.{AllByRecursion, AllZip}
 use Rattle.std.proofs.lemmas.List.{map-append, take_more}
 use Rattle.std.proofs.lemmas.List.Elements.{All-push}
@@ -7,9 +7,8 @@ use Rattle.cif_flatten.specs.declared.flat.Draw.{Draw}
 use Rattle.layer_map.specs.Truth.{Formula}
 use Rattle.mask_region.specs.declared.strips.Strip.{Strip}
 use Rattle.mask_region.specs.Strips.{AreStripsWithin}
-use Rattle.mask_algebra.specs.declared.layers.Layer.{Layer}
 use Rattle.mask_algebra.specs.Masks.{IsMask, AreMasks}
-use Rattle.mask_algebra.specs.Layers.{AreLayers, AreMade}
+use Rattle.mask_algebra.specs.Layers.{AreMade}
 
 zip_push : (draws : List Draw) (fs : List Formula) (rs : List (List Strip)) (f : Formula) (r : List Strip) → AllZip (IsMask draws) fs rs → IsMask draws f r → AllZip (IsMask draws) (fs ++ f ∷ []) (rs ++ r ∷ [])
 zip_push draws [] [] f r h m = (m, h)
@@ -17,16 +16,15 @@ zip_push draws [] (s ∷ rs) f r h m = absurd h
 zip_push draws (g ∷ fs) [] f r h m = absurd h
 zip_push draws (g ∷ fs) (s ∷ rs) f r h m = (h.0, zip_push draws fs rs f r h.1 m)
 
-pub made_more : {L : Type 0} (draws : List Draw) (formula : L → Formula) (lines : List L) (k : ℕ) (d : L) (layers next : List Layer) (regions : List (List Strip)) (r : List Strip) → k < length lines → d ≡ get_or lines k d
-    → AreMade draws (map formula (take k lines)) layers regions → AreLayers draws next → IsMask draws (formula d) r → AreStripsWithin (2 ^ 24) r
-    → AreMade draws (map formula (take (k + 1) lines)) next (regions ++ r ∷ [])
-made_more draws formula lines k d layers next regions r lt is h made mask near =
+pub made_more : {L : Type 0} (canvas next draws : List Draw) (formula : L → Formula) (lines : List L) (k : ℕ) (d : L) (regions : List (List Strip)) (r : List Strip) → k < length lines → d ≡ get_or lines k d
+    → AreMade canvas draws (map formula (take k lines)) regions → next ≡ canvas → IsMask canvas (formula d) r → AreStripsWithin (2 ^ 24) r → AreMade next draws (map formula (take (k + 1) lines)) (regions ++ r ∷ [])
+made_more canvas next draws formula lines k d regions r lt is h same mask near =
     record {
-      made = made;
+      same = same ∙ h.same;
       masks = record {
         each = subst (λ fs. AllZip (IsMask draws) fs (regions ++ r ∷ []))
             (sym (ap (map formula) (take_more lines k d lt) ∙ map-append formula (take k lines) (get_or lines k d ∷ [])))
-            (zip_push draws (map formula (take k lines)) regions (formula (get_or lines k d)) r h.masks.each (subst (λ l. IsMask draws (formula l) r) is mask));
+            (zip_push draws (map formula (take k lines)) regions (formula (get_or lines k d)) r h.masks.each (subst (λ ds. IsMask ds (formula (get_or lines k d)) r) h.same (subst (λ l. IsMask canvas (formula l) r) is mask)));
       };
       near = record { each = All-push (AreStripsWithin (2 ^ 24)) regions r h.near.each near };
     }

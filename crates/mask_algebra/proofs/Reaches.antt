@@ -1,12 +1,12 @@
 -- Every well-formed shape has a reach, and so what is cut from it is within the reach's bound.
-use Rattle.std.proofs.Common.{◌≡◌, ℕ, zero, suc, ◌+◌, ◌^◌, ◌<◌, ◌≤◌, List, [], ◌∷◌, length, get_or, refl, add-one, arith}
-use Rattle.std.specs.Prelude.{ℤ, pos, ◌≤ℤ◌, slice_index_or}
+use Rattle.std.proofs.Common.{ℕ, zero, suc, ◌^◌, ◌<◌, ◌≤◌, List, [], ◌∷◌, length, get_or, refl, add-one, arith}
+use Rattle.std.specs.Prelude.{ℤ, pos, slice_index_or}
 use Rattle.std.specs.List.{All}
 use Rattle.std.proofs.lemmas.Int.{ints}
 use Rattle.std.proofs.lemmas.List.Elements.{All-nil, All-head, All-weaker}
 use Rattle.plane_geom.specs.declared.shapes.Point.{Point}
 use Rattle.plane_geom.specs.declared.shapes.Rect.{Rect}
-use Rattle.plane_geom.specs.Bounds.{IsWithin, IsPointWithin, IsRectWithin}
+use Rattle.plane_geom.specs.Bounds.{IsPointWithin, IsRectWithin}
 use Rattle.plane_geom.specs.Covering.{Figure, block, polygon, wire, IsRect, IsRectIn, HoldsAround, IsReach, IsWellFormed, stretched_to}
 use Rattle.plane_geom.proofs.Reaching.{thickened, IsHull, hull_more, hull_reach_is}
 use Rattle.shape_cut.proofs.Hulls.{wire_near, polygon_near}

@@ -1,10 +1,11 @@
 -- The regions that expressions are evaluated on.
-use Rattle.std.specs.Prelude.{◌≡◌, ℕ, ◌<◌, ◌^◌, ℤ, pos, neg_ℤ, Bool, true, false, ◌&&◌, List, [], take, length, slice_index_or}
+use Rattle.std.specs.Prelude.{◌≡◌, ℕ, ◌<◌, ◌^◌, ℤ, pos, neg_ℤ, true, false, ◌&&◌, List, [], take, length, slice_index_or}
 use Rattle.std.specs.List.{All}
 use Rattle.plane_geom.specs.declared.shapes.Rect.{Rect}
 use Rattle.plane_geom.specs.Bounds.{IsRectWithin}
 use Rattle.plane_geom.specs.Cells.{is_in_rect, is_in_rects}
 use Rattle.cif_flatten.specs.declared.flat.Draw.{Draw}
+use Rattle.cif_flatten.specs.Flat.{IsShapeWithin}
 use Rattle.layer_map.specs.Truth.{Formula, is_unbounded}
 use Rattle.mask_region.specs.declared.strips.Strip.{Strip}
 use Rattle.mask_region.specs.Strips.{is_in, IsCellWithin, AreRegionsWithin}
@@ -45,19 +46,27 @@ pub record AreCut (draws : List Draw) (name : List ℕ) (k : ℕ) (rects : List 
 
 -- ---- values
 
--- The region has exactly the cells that no coordinate puts further from 0 than any shape may lie.
+-- the square whose cells any layout may cover
+abbrev pub square : Rect
+square = record { x0 = neg_ℤ (pos (2 ^ 24)); y0 = neg_ℤ (pos (2 ^ 24)); x1 = pos (2 ^ 24); y1 = pos (2 ^ 24) }
+
 pub record IsFrame (region : List Strip) : Type 0 where
-  pub holds_all : (x y : ℤ) → IsCellWithin (2 ^ 24) x y → is_in region x y ≡ true
-  pub near : (x y : ℤ) → is_in region x y ≡ true → IsCellWithin (2 ^ 24) x y
+  pub cells : (x y : ℤ) → is_in region x y ≡ is_in_rect square x y
 
--- Inside of the frame, the region has the cells where the expression is true. Outside of it, it has none, and there the
--- expression is as it is where no layer is present.
-pub record IsValue (draws : List Draw) (frame : List Strip) (formula : Formula) (region : List Strip) : Type 0 where
-  pub inside : (x y : ℤ) → is_in region x y ≡ (is_in frame x y && is_true_at draws formula x y)
-  pub outside : (x y : ℤ) → is_in frame x y ≡ false → is_true_at draws formula x y ≡ is_unbounded formula
-
--- The masks of these expressions are made, with the layers that they name.
-pub record AreMade (draws : List Draw) (formulas : List Formula) (layers : List Layer) (regions : List (List Strip)) : Type 0 where
+-- The shapes lie in the square, and the regions are the square's and those of layers.
+pub record IsCanvas (draws : List Draw) (frame : List Strip) (layers : List Layer) : Type 0 where
+  pub within : All (λ (d : Draw). IsShapeWithin (2 ^ 24) d.shape) draws
+  pub framed : IsFrame frame
   pub made : AreLayers draws layers
+
+-- In the square, the region has the cells where the expression is true. Outside of it, it has none, and there the
+-- expression is as it is where no layer is present.
+pub record IsValue (draws : List Draw) (formula : Formula) (region : List Strip) : Type 0 where
+  pub inside : (x y : ℤ) → is_in region x y ≡ (is_in_rect square x y && is_true_at draws formula x y)
+  pub outside : (x y : ℤ) → is_in_rect square x y ≡ false → is_true_at draws formula x y ≡ is_unbounded formula
+
+-- The canvas is the layout's still, and the masks are those of these expressions.
+pub record AreMade (canvas draws : List Draw) (formulas : List Formula) (regions : List (List Strip)) : Type 0 where
+  pub same : canvas ≡ draws
   pub masks : AreMasks draws formulas regions
   pub near : AreRegionsWithin (2 ^ 24) regions

@@ -32,7 +32,7 @@ pub(crate) fn place_of(
 ) -> Result<usize, AllocError>
     requires within { All (λ d. IsShapeWithin (2 ^ 24) d.shape) draws.now }
     requires made { AreLayers draws.now layers.old.items }
-    ensures made { OnOk result (AreLayers draws.now layers.new.items) }
+    ensures made { AreLayers draws.now layers.new.items }
     ensures place { IfOk result (λ k. IsLayerAt draws.now name layers.new.items k) }
 {
     if let Some(place) = find(layers.as_slice(), name) {

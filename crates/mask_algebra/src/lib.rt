@@ -11,10 +11,10 @@
 //! The tracing of nets and the extraction of transistors stand on it.
 #![tactic(auto)]
 
+mod canvas;
 mod evaluation;
 mod layers;
 #[cfg(test)]
 mod tests;
-mod values;
 
 pub use evaluation::evaluate;

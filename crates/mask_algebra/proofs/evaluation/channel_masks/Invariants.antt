@@ -4,4 +4,4 @@ use Rattle.mask_algebra.specs.Layers.{AreMade}
 use Rattle.mask_algebra.proofs.evaluation.channel_masks.Given as goal
 
 abbrev pub invariant-loop-fet : goal.invariant-loop-fet
-invariant-loop-fet l = AreMade l.draws (map (λ s. formula_of s.channel) (take l.fet-index l.fets)) l.layers.items l.masks.items
+invariant-loop-fet l = AreMade l.canvas l.fn.canvas (map (λ s. formula_of s.channel) (take l.fet-index l.fets)) l.masks.items

@@ -4,4 +4,4 @@ use Rattle.mask_algebra.specs.Layers.{AreMade}
 use Rattle.mask_algebra.proofs.evaluation.cut_masks.Given as goal
 
 abbrev pub invariant-loop-cut : goal.invariant-loop-cut
-invariant-loop-cut l = AreMade l.draws (map (λ s. formula_of s.expr) (take l.cut-index l.cuts)) l.layers.items l.masks.items
+invariant-loop-cut l = AreMade l.canvas l.fn.canvas (map (λ s. formula_of s.expr) (take l.cut-index l.cuts)) l.masks.items

@@ -1,5 +1,4 @@
 use Rattle.std.proofs.Common.{◌^◌}
-use Rattle.std.specs.List.{All}
 use Rattle.std.proofs.lemmas.List.Elements.{All-append}
 use Rattle.plane_geom.specs.Bounds.{IsRectWithin}
 use Rattle.plane_geom.specs.Covering.{figure_of}

@@ -1,7 +1,6 @@
 -- Worked values of the definitions, each computed.
-use Rattle.std.proofs.Common.{◌≡◌, Bool, true, false, List, [], ◌∷◌, refl}
+use Rattle.std.proofs.Common.{◌≡◌, true, false, List, [], ◌∷◌, refl}
 use Rattle.std.specs.Prelude.{ℕ, ℤ, pos, codes}
-use Rattle.plane_geom.specs.declared.shapes.Rect.{Rect}
 use Rattle.plane_geom.specs.declared.shapes.Shape.TheVariants.{Block}
 use Rattle.cif_flatten.specs.declared.flat.Draw.{Draw}
 use Rattle.layer_map.specs.Truth.{Formula, on, neither, both}

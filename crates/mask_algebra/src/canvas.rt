@@ -1,7 +1,6 @@
 //! Layouts on which expressions are evaluated.
 
-ghost use Rattle.std.specs.Prelude.{◌≡◌, ◌^◌, false, OnOk, IfOk, map};
-ghost use Rattle.std.specs.List.{AllByRecursion};
+ghost use Rattle.std.specs.Prelude.{◌≡◌, ◌^◌, false, IfOk};
 ghost use Rattle.layer_map.specs.Truth.{formula_of, is_unbounded};
 ghost use Rattle.mask_region.specs.Strips.{AreStripsWithin};
 ghost use Rattle.mask_algebra.specs.Masks.{IsMask};
@@ -41,12 +40,6 @@ impl<'a> Model for Canvas<'a> {
 }
 
 impl<'a> Canvas<'a> {
-    ghost use Rattle.std.specs.Prelude.{◌≡◌, ◌^◌, false, IfOk};
-    ghost use Rattle.layer_map.specs.Truth.{formula_of, is_unbounded};
-    ghost use Rattle.mask_region.specs.Strips.{AreStripsWithin};
-    ghost use Rattle.mask_algebra.specs.Masks.{IsMask};
-    ghost use Rattle.mask_algebra.specs.Layers.{IsValue};
-
     /// The layout, with no layer named so far.
     pub(crate) fn new(alloc: Global, flat: &'a Flat) -> Result<Canvas<'a>, AllocError>
         ensures { IfOk result (λ c. c ≡ flat.now.draws) }
@@ -66,6 +59,7 @@ impl<'a> Canvas<'a> {
         ensures near { IfOk result (AreStripsWithin (2 ^ 24)) }
     {
         let region = self.value(alloc, expr)?;
+        // The strips are banded, and so they lie no further out than the cells.
         let _strips = region.strips();
         Ok(region)
     }

@@ -1,12 +1,11 @@
 //! The regions of layers.
 
-ghost use Rattle.std.specs.Prelude.{◌≡◌, ◌^◌, ◌||◌, ℤ, true, OnOk, IfOk, IfSome};
+ghost use Rattle.std.specs.Prelude.{◌≡◌, ◌^◌, ◌||◌, ℤ, OnOk, IfOk, IfSome};
 ghost use Rattle.std.specs.List.{All};
 ghost use Rattle.plane_geom.specs.Bounds.{IsRectWithin};
 ghost use Rattle.plane_geom.specs.Cells.{is_in_rects};
 ghost use Rattle.plane_geom.specs.Covering.{figure_of, covers};
 ghost use Rattle.cif_flatten.specs.Flat.{IsShapeWithin};
-ghost use Rattle.mask_region.specs.Strips.{is_in, IsCellWithin};
 ghost use Rattle.mask_algebra.specs.Masks.{layer_covers};
 ghost use Rattle.mask_algebra.specs.Layers.{IsNamedAt, IsLayer, IsLayerAt, AreLayers};
 

@@ -1,0 +1,6 @@
+//! Unfolds the calls of a layout.
+#![tactic(auto)]
+
+mod flat;
+
+pub use flat::{Draw, Flat, Mark};

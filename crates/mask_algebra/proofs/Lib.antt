@@ -1,0 +1,6 @@
+pub mod Drawn
+pub mod Reaches
+pub mod Layering
+pub mod Evaluating
+pub mod Lines
+pub mod Worked

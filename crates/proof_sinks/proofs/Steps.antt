@@ -3,7 +3,6 @@ use Rattle.std.proofs.Common.{◌≡◌, ℕ, ◌+◌, ◌-◌, ◌^◌, ◌<◌
 use Rattle.std.proofs.lemmas.List.{append-nil, take-append-drop, take-append-le, take_all, length-append, length-take}
 use Rattle.probe_io.specs.Written.{Appends, AppendsFront}
 use Rattle.proof_sinks.specs.declared.lines.Said.{Said}
-use Rattle.proof_sinks.specs.Calls.{KeepsTold}
 use Rattle.proof_sinks.specs.Sending.{SendsFront}
 use Rattle.proof_sinks.specs.Text.{line_text, lines_text, text_of, without_last, IsPrinted}
 
@@ -28,12 +27,6 @@ take_moved before front sent =
 now_moved : (before now front : List ℕ) (sent after : ℕ) → now ≡ before ++ front → after ≡ sent + length front → take (length now - after) now ≡ take (length before - sent) before
 now_moved before now front sent after is count =
     ap (λ k. take (length now - k) now) count ∙ ap (λ l. take (length l - (sent + length front)) l) is ∙ take_moved before front sent
-
--- the text before the first line stays
-pub keeps_told : (old new : Option (List ℕ)) (sent after : ℕ) (front : List ℕ) → Appends old new front → after ≡ sent + length front → KeepsTold (without_last sent old) (without_last after new)
-keeps_told old None sent after front appends count = tt
-keeps_told None (Some now) sent after front appends count = absurd appends.told
-keeps_told (Some before) (Some now) sent after front appends count = ap (λ l. Some l) (sym (now_moved before now front sent after appends.told count))
 
 -- what was printed, and then these bytes
 moved : (old new : Option (List ℕ)) (sent after : ℕ) (printed front : List ℕ) → Appends (without_last sent old) old printed → Appends old new front → after ≡ sent + length front

@@ -1,0 +1,5 @@
+mod Checked
+mod Printed
+mod Steps
+mod Derivations
+mod Worked

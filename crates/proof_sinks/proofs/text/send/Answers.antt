@@ -1,0 +1,11 @@
+use Rattle.std.proofs.Common.{rules, arith}
+use Rattle.probe_io.proofs.WrittenLemmas.{Appends-slice}
+use Rattle.proof_sinks.proofs.text.send.Goals as goal
+
+pub loop-done-preserved : goal.loop-done-preserved
+loop-done-preserved g c = record {
+  in_range = grind (arith, c.in_ok-count.ensures.most);
+  counted = omega (arith, c.loop-done.invariant.counted);
+  written = Appends-slice _ _ _ c.loop-done.invariant.written c.in_ok-count.ensures.taken;
+  later = search rules;
+}

@@ -1,0 +1,86 @@
+//! The text of lines.
+
+ghost use Rattle.std.specs.Prelude.{◌≡◌, OnOk, OnErr, IfOk};
+ghost use Rattle.probe_io.specs.Causes.{HasCause};
+ghost use Rattle.probe_io.specs.Written.{Appends, AppendsFront};
+ghost use Rattle.proof_sinks.specs.Text.{literal_text, clause_text, hint_text, hints_text, given_text, derived_text};
+
+use clause_base::Lit;
+use probe_io::{Failed, MemSink, Piece, Sink, put_all, put_pieces};
+use std::alloc::Global;
+
+/// Writes a clause: its literals, each followed by a space, and `0`. After `Failed`, a front of that text was written.
+/// It takes no memory.
+pub fn put_clause<K: Sink>(sink: &mut K, clause: &[Lit]) -> Result<(), Failed>
+    ensures ok { OnOk result (Appends (K.written sink.old) (K.written sink.new) (clause_text clause.now)) }
+    ensures front { OnErr result (AppendsFront (K.written sink.old) (K.written sink.new) (clause_text clause.now)) }
+    ensures cause { HasCause (K.faults sink.old) (K.faults sink.new) result }
+{
+    for lit in clause {
+        put_literal(sink, *lit)?;
+    }
+    put_all(sink, b"0")
+}
+
+/// Writes a literal and a space.
+#[tactic(auto, unfolding(crate::specs::Text::literal_text))]
+fn put_literal<K: Sink>(sink: &mut K, lit: Lit) -> Result<(), Failed>
+    ensures ok { OnOk result (Appends (K.written sink.old) (K.written sink.new) (literal_text lit)) }
+    ensures front { OnErr result (AppendsFront (K.written sink.old) (K.written sink.new) (literal_text lit)) }
+    ensures cause { HasCause (K.faults sink.old) (K.faults sink.new) result }
+{
+    put_pieces(
+        sink,
+        &[Piece::Signed(lit.value() as i64), Piece::Text(b" ")],
+    )
+}
+
+/// Writes hints: the numbers, each followed by a space, and `0`.
+fn put_hints<K: Sink>(sink: &mut K, hints: &[u64]) -> Result<(), Failed>
+    ensures { OnOk result (Appends (K.written sink.old) (K.written sink.new) (hints_text hints.now)) }
+{
+    for hint in hints {
+        put_hint(sink, *hint)?;
+    }
+    put_all(sink, b"0")
+}
+
+/// Writes a hint and a space.
+#[tactic(auto, unfolding(crate::specs::Text::hint_text))]
+fn put_hint<K: Sink>(sink: &mut K, hint: u64) -> Result<(), Failed>
+    ensures { OnOk result (Appends (K.written sink.old) (K.written sink.new) (hint_text hint)) }
+{
+    put_pieces(sink, &[Piece::Number(hint), Piece::Text(b" ")])
+}
+
+/// The line of a clause that is given. It fails only where no memory is found.
+pub(crate) fn given_line(alloc: Global, lits: &[Lit]) -> Result<MemSink, Failed>
+    ensures { IfOk result (λ line. line.written ≡ given_text lits.now) }
+{
+    let mut line = MemSink::new(alloc, Vec::new(alloc), usize::MAX);
+    put_all(&mut line, b"f ")?;
+    put_clause(&mut line, lits)?;
+    put_all(&mut line, b"\n")?;
+    Ok(line)
+}
+
+/// The line of a derived clause of this number. It fails only where no memory is found.
+pub(crate) fn derived_line(
+    alloc: Global,
+    number: u64,
+    clause: &[Lit],
+    hints: &[u64],
+) -> Result<MemSink, Failed>
+    ensures { IfOk result (λ line. line.written ≡ derived_text number clause.now hints.now) }
+{
+    let mut line = MemSink::new(alloc, Vec::new(alloc), usize::MAX);
+    put_pieces(
+        &mut line,
+        &[Piece::Text(b"d "), Piece::Number(number), Piece::Text(b" ")],
+    )?;
+    put_clause(&mut line, clause)?;
+    put_all(&mut line, b" ")?;
+    put_hints(&mut line, hints)?;
+    put_all(&mut line, b"\n")?;
+    Ok(line)
+}

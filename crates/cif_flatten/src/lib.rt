@@ -1,6 +1,8 @@
 //! Unfolds the calls of a layout.
 #![tactic(auto)]
 
+mod calls;
 mod flat;
 
+pub use calls::{UndefinedCall, undefined_call};
 pub use flat::{Draw, Flat, Mark};

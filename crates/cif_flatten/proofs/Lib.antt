@@ -1,2 +1,4 @@
 pub mod First
 pub mod Lookups
+pub mod Unfoldings
+pub mod Sizing

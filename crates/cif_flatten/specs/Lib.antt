@@ -1,3 +1,4 @@
 pub mod Flat
 pub mod Unfolding
 pub mod Faults
+pub mod Sizes

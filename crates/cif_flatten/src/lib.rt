@@ -3,6 +3,7 @@
 
 mod calls;
 mod flat;
+mod sizes;
 
 pub use calls::{UndefinedCall, undefined_call};
 pub use flat::{Draw, Flat, Mark};

@@ -2,3 +2,4 @@ pub mod First
 pub mod Lookups
 pub mod Unfoldings
 pub mod Sizing
+pub mod Exploring

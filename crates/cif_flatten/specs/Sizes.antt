@@ -72,3 +72,20 @@ IsOn number (frame ∷ frames) top = (number ≡ frame.number) ⊎ IsOn number f
 pub record Recurses (symbols : List Symbol) : Type 0 where
   pub number : ℕ
   pub itself : CallsThrough symbols number number
+
+module _ {S : Type 0} where
+  -- The state of the search: a path of begun symbols, and the table.
+  pub record Exploring (symbols : List Symbol) (before now : IndexMap ℕ (Option Size) S) (start : ℕ) (below : List Frame) (top : Frame) : Type 0 where
+    pub sizes : AreSizes symbols now
+    pub frame : IsFrame symbols top
+    pub path : IsPath symbols below top.number
+    pub begun_on : (number : ℕ) → get nat_eq now number ≡ Some None → IsOn number below top.number
+    pub kept : (number : ℕ) → is_some (get nat_eq before number) ≡ true → is_some (get nat_eq now number) ≡ true
+    pub begun : is_some (get nat_eq now start) ≡ true
+
+  -- The symbol is in the table, and all that was; no symbol is begun and not done.
+  pub record Explored (symbols : List Symbol) (before now : IndexMap ℕ (Option Size) S) (start : ℕ) : Type 0 where
+    pub sizes : AreSizes symbols now
+    pub settled : AreSettled now
+    pub kept : (number : ℕ) → is_some (get nat_eq before number) ≡ true → is_some (get nat_eq now number) ≡ true
+    pub begun : is_some (get nat_eq now start) ≡ true

@@ -1,15 +1,16 @@
 //! How much symbols unfold to, counted with no unfolding.
 
-ghost use Rattle.std.specs.Prelude.{◌≡◌, ℕ, ◌+◌, ◌<◌, ◌≤◌, ◌^◌, true, length, take, List, [], ◌∷◌, Some, None, nat_eq, OnOk, IfOk, IfSome, IfNone, MatchOption, is_some};
+ghost use Rattle.std.specs.Prelude.{◌≡◌, ℕ, ◌+◌, ◌<◌, ◌≤◌, ◌^◌, true, false, length, take, List, [], ◌∷◌, Some, None, nat_eq, OnOk, IfOk, IfSome, IfNone, MatchOption, is_some};
 ghost use Rattle.std.specs.List.{list_any};
 ghost use Rattle.indexmap.specs.IndexMap.{get};
 ghost use Rattle.plane_geom.specs.Covering.{figure_of};
 ghost use Rattle.cif_reader.specs.File.{has_number};
+ghost use Rattle.cif_reader.specs.declared.file.Symbol.{Symbol};
 ghost use Rattle.cif_flatten.specs.declared.sizes.Size.{Size};
 ghost use Rattle.cif_flatten.specs.declared.sizes.ItemSize.TheVariants.{Known, Waiting};
 ghost use Rattle.cif_flatten.specs.Unfolding.{items_of, call_count, weight as weight_of_what, figure_weight};
 ghost use Rattle.cif_flatten.specs.Faults.{calls};
-ghost use Rattle.cif_flatten.specs.Sizes.{capped, HasSize, called_by, AreSizes, AreSettled, IsWaiting, IsFrame, Recurses};
+ghost use Rattle.cif_flatten.specs.Sizes.{capped, HasSize, called_by, AreSizes, AreSettled, IsWaiting, IsFrame, Recurses, Explored};
 
 use cif_reader::{CifFile, Item, What};
 use indexmap::IndexMap;
@@ -156,4 +157,48 @@ fn advance(file: &CifFile, sizes: &Sizes, frame: Frame) -> (Frame, Option<u32>)
         }
     }
     (Frame { next, size, ..frame }, None)
+}
+
+impl Frame {
+    /// A symbol of which nothing is measured.
+    fn start(number: u32) -> Frame
+        ensures number { result.number ≡ number }
+        ensures frame { (symbols : List Symbol) → IsFrame symbols result }
+    {
+        Frame {
+            number,
+            next: 0,
+            size: Size::NOTHING,
+        }
+    }
+}
+
+/// Measures a symbol that was not begun, after all that it calls through others. It is `false` where a symbol calls itself,
+/// perhaps through others.
+fn explore(alloc: Global, file: &CifFile, sizes: &mut Sizes, number: u32) -> Result<bool, AllocError>
+    requires sizes { AreSizes file.now.symbols sizes.old }
+    requires settled { AreSettled sizes.old }
+    ensures explored { IfOk result (λ done. done ≡ true → Explored file.now.symbols sizes.old sizes.new number) }
+    ensures recurses { IfOk result (λ done. done ≡ false → Recurses file.now.symbols) }
+{
+    let mut below = Vec::new(alloc);
+    sizes.insert(number, None)?;
+    let mut top = Frame::start(number);
+    loop {
+        let (frame, waiting) = advance(file, sizes, top);
+        if let Some(called) = waiting {
+            if sizes.contains_key(&called) {
+                return Ok(false);
+            }
+            sizes.insert(called, None)?;
+            below.push(frame)?;
+            top = Frame::start(called);
+        } else {
+            sizes.insert(frame.number, Some(frame.size))?;
+            let Some(caller) = below.pop() else {
+                return Ok(true);
+            };
+            top = caller;
+        }
+    }
 }

@@ -1,7 +1,9 @@
 -- The search over the calls of symbols.
-use Rattle.std.proofs.Common.{◌≡◌, ◌⊎◌, inl, inr, ℕ, suc, ◌+◌, ◌-◌, ◌*◌, ◌<◌, ◌≤◌, length, map, Bool, true, false, not, cond, ◌||◌, List, [], ◌∷◌, ◌++◌, refl, sym, ap, ◌∙◌, subst, arith, rules, eqb-true, eq-eqb}
-use Rattle.std.specs.Prelude.{◌==◌, nat_eq, Option, Some, None, is_some, take, count_by}
+use Rattle.std.proofs.Common.{◌≡◌, ◌⊎◌, inl, inr, ℕ, suc, add-one, get_or, ◌+◌, ◌-◌, ◌*◌, ◌<◌, ◌≤◌, length, map, Bool, true, false, not, cond, ◌||◌, List, [], ◌∷◌, ◌++◌, refl, sym, ap, ◌∙◌, subst, arith, rules, length-append, eqb-true, eq-eqb}
+use Rattle.std.specs.Prelude.{◌==◌, nat_eq, Option, Some, None, is_some, IfSome, IfNone, take, count_by}
 use Rattle.std.specs.List.{list_any}
+use Rattle.std.proofs.Math.Seq.{take-suc}
+use Rattle.std.proofs.lemmas.List.Folds.{list_any-append}
 use Rattle.std.proofs.lemmas.Bool.Decides.{nat_tests}
 use Rattle.std.proofs.lemmas.Option.{none-some}
 use Rattle.plane_geom.proofs.Counting.{count_cons}
@@ -13,7 +15,7 @@ use Rattle.cif_flatten.specs.declared.sizes.Size.{Size}
 use Rattle.cif_flatten.specs.declared.sizes.Frame.{Frame}
 use Rattle.cif_flatten.specs.Unfolding.{items_of}
 use Rattle.cif_flatten.specs.Faults.{calls, CallsAlong, CallsThrough}
-use Rattle.cif_flatten.specs.Sizes.{HasSize, AreSizes, AreSettled, is_new, count_new, IsFrame, first_number, IsPath, IsOn, Recurses, Exploring, Explored}
+use Rattle.cif_flatten.specs.Sizes.{HasSize, AreSizes, AreSettled, IsWaiting, is_new, count_new, IsFrame, first_number, IsPath, IsOn, Recurses, Exploring, Explored, AreBegun, HasSizes}
 use Rattle.cif_flatten.proofs.Sizing.{size_nothing, nothing}
 
 -- ---- paths
@@ -147,17 +149,17 @@ module _ {S : Type 0} (symbols : List Symbol) (before now : IndexMap ℕ (Option
 
 -- ---- the steps of the search
 
-start_on : {S : Type 0} {table : IndexMap ℕ (Option Size) S} {top start : ℕ} (q : ℕ) → ((start ≡ q) × (None {Size} ≡ None)) ⊎ (get nat_eq table q ≡ Some None) → top ≡ start → AreSettled table → q ≡ top
-start_on q (inl h) is settled = sym (is ∙ h.0)
-start_on q (inr h) is settled = absurd (settled q h)
+start_on : {S : Type 0} (table : IndexMap ℕ (Option Size) S) {top start : ℕ} {P : Type 0} (q : ℕ) → ((start ≡ q) × P) ⊎ (get nat_eq table q ≡ Some None) → top ≡ start → AreSettled table → q ≡ top
+start_on table q (inl h) is settled = sym (is ∙ h.0)
+start_on table q (inr h) is settled = absurd (settled q h)
 
 deeper_on : (q : ℕ) (below : List Frame) (frame top : Frame) (called : ℕ) {P Q : Type 0} → top.number ≡ called → (Q → IsOn q below frame.number) → ((called ≡ q) × P) ⊎ Q → IsOn q (below ++ frame ∷ []) top.number
 deeper_on q below frame top called is f (inl h) = subst (λ n. IsOn n (below ++ frame ∷ []) top.number) (is ∙ h.0) (on_top top.number (below ++ frame ∷ []))
 deeper_on q below frame top called is f (inr h) = on_push q below frame top.number (f h)
 
 back_on : (q : ℕ) (rest : List Frame) (caller : Frame) (n : ℕ) → (q ≡ n) ⊎ IsOn q rest caller.number → (q ≡ n → ⊥) → IsOn q rest caller.number
-back_on q rest caller n (inl h) not = absurd (not h)
-back_on q rest caller n (inr h) not = h
+back_on q rest caller n (inl h) other = absurd (other h)
+back_on q rest caller n (inr h) other = h
 
 module _ {S : Type 0} (symbols : List Symbol) (mid now : IndexMap ℕ (Option Size) S) (number : ℕ) (size : Size) (put : (q : ℕ) → get nat_eq now q ≡ cond (nat_eq number q) (Some (Some size)) (get nat_eq mid q)) where
   still_begun : (q : ℕ) → get nat_eq now q ≡ Some None → get nat_eq mid q ≡ Some None
@@ -173,7 +175,7 @@ module _ {S : Type 0} (symbols : List Symbol) (start : ℕ) (before mid now : In
     sizes = sizes_put symbols before now start None put sizes (λ size h. absurd (none-some size h));
     frame = frame;
     path = tt;
-    begun_on = λ q h. start_on q (begun_or_put symbols before now start None put q h) is settled;
+    begun_on = λ q h. start_on before q (begun_or_put symbols before now start None put q h) is settled;
     kept = none_or_some symbols before now start None put;
     begun = begun_here symbols before now start None put;
   }
@@ -224,3 +226,45 @@ module _ {S : Type 0} (symbols : List Symbol) (start : ℕ) (before mid now : In
 
 pub start_frame : (symbols : List Symbol) (number : ℕ) → IsFrame symbols (record { number = number; next = 0; size = nothing })
 start_frame symbols number = record { within = omega arith; size = size_nothing symbols }
+
+-- what is known of a symbol that was to be measured first
+pub known_called : (P : ℕ → Type 0) (r : Option ℕ) (n : ℕ) → r ≡ Some n → IfSome r P → P n
+known_called P r n is h = subst (λ s. IfSome s P) is h
+
+pub met_again : {S : Type 0} (symbols : List Symbol) (start : ℕ) (before mid : IndexMap ℕ (Option Size) S) (below : List Frame) (frame : Frame) (n : ℕ) → Exploring symbols before mid start below frame → calls symbols frame.number n ≡ true
+    → IsWaiting symbols mid n → is_some (get nat_eq mid n) ≡ true → Recurses symbols
+met_again symbols start before mid below frame n h e (inl begun) has = recursion symbols below frame.number n h.path (h.begun_on n begun) e
+met_again symbols start before mid below frame n h e (inr none) has = absurd (false_true (ap is_some (sym none.0) ∙ has))
+
+pub new_called : {S : Type 0} (symbols : List Symbol) (mid : IndexMap ℕ (Option Size) S) (n : ℕ) → IsWaiting symbols mid n → is_some (get nat_eq mid n) ≡ false → (get nat_eq mid n ≡ None) × (list_any (has_number n) symbols ≡ true)
+new_called symbols mid n (inl begun) not = absurd (false_true (sym not ∙ ap is_some begun))
+new_called symbols mid n (inr none) not = none
+
+pub less_pushed : (m n : ℕ) (below pushed : List Frame) (f : Frame) → m < n → pushed ≡ below ++ f ∷ [] → 2 * m + length pushed < 2 * n + length below
+less_pushed m n below pushed f h is = omega (arith, h, ap (λ fs. length fs) is, length-append below (f ∷ []))
+
+pub less_popped : (m n : ℕ) (below rest : List Frame) (f : Frame) → m ≤ n → below ≡ rest ++ f ∷ [] → 2 * m + length rest < 2 * n + length below
+less_popped m n below rest f h is = omega (arith, h, ap (λ fs. length fs) is, length-append rest (f ∷ []))
+
+pub all_known : (P : Type 0) (r : Option ℕ) → r ≡ None → IfNone r P → P
+all_known P r is h = subst (λ s. IfNone s P) is h
+
+-- ---- all symbols
+
+more_case : (a b : Bool) {P : Type 0} → (a || (b || false)) ≡ true → (a ≡ true → P) → (b ≡ true → P) → P
+more_case true b h f g = f refl
+more_case false true h f g = g refl
+more_case false false h f g = absurd (false_true h)
+
+pub begun_more : {S : Type 0} (symbols : List Symbol) (before now : IndexMap ℕ (Option Size) S) (i : ℕ) (d : Symbol) → i < length symbols → AreBegun (take i symbols) before → Explored symbols before now (get_or symbols i d).number
+    → AreBegun (take (i + 1) symbols) now
+begun_more symbols before now i d inside begun e = λ n any.
+    more_case (list_any (has_number n) (take i symbols)) (n == (get_or symbols i d).number)
+    (sym (ap (λ k. list_any (has_number n) (take k symbols)) (add-one i) ∙ ap (list_any (has_number n)) (take-suc symbols i d inside) ∙ list_any-append (has_number n) (take i symbols) (get_or symbols i d ∷ [])) ∙ any)
+    (λ h. e.kept n (begun n h))
+    (λ h. subst (λ k. is_some (get nat_eq now k) ≡ true) (sym (eqb-true n (get_or symbols i d).number h)) e.begun)
+
+-- Where all is measured nothing waits.
+pub none_waits : {S : Type 0} (symbols : List Symbol) (table : IndexMap ℕ (Option Size) S) (n : ℕ) → HasSizes symbols table → IsWaiting symbols table n → ⊥
+none_waits symbols table n h (inl begun) = h.settled n begun
+none_waits symbols table n h (inr none) = false_true (ap is_some (sym none.0) ∙ h.begun n none.1)

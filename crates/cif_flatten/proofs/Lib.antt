@@ -3,3 +3,4 @@ pub mod Lookups
 pub mod Unfoldings
 pub mod Sizing
 pub mod Exploring
+pub mod Nesting

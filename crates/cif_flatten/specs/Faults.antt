@@ -86,6 +86,11 @@ pub record IsRecursive (file : Contents) (number : ℕ) : Type 0 where
 pub record IsNested (file : Contents) : Type 0 where
   pub none : (number : ℕ) → CallsThrough file.symbols number number → ⊥
 
+-- Some symbol calls itself.
+pub record HasRecursion (file : Contents) : Type 0 where
+  pub number : ℕ
+  pub itself : CallsThrough file.symbols number number
+
 -- ---- how much is unfolded
 
 -- The most calls, and the most that shapes and labels weigh.

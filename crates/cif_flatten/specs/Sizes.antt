@@ -8,10 +8,10 @@ use Rattle.cif_reader.specs.declared.file.Item.{Item}
 use Rattle.cif_reader.specs.declared.file.Symbol.{Symbol}
 use Rattle.cif_reader.specs.declared.file.What.{What}
 use Rattle.cif_reader.specs.declared.file.What.TheVariants.{Draw, Call, Mark}
-use Rattle.cif_reader.specs.File.{has_number}
+use Rattle.cif_reader.specs.File.{Contents, has_number}
 use Rattle.cif_flatten.specs.declared.sizes.Size.{Size}
 use Rattle.cif_flatten.specs.declared.sizes.Frame.{Frame}
-use Rattle.cif_flatten.specs.Unfolding.{Placed, in_place, items_of, Unfolds, calls_among, weight_among}
+use Rattle.cif_flatten.specs.Unfolding.{Placed, IsUnfolding, in_place, items_of, Unfolds, calls_among, weight_among}
 use Rattle.cif_flatten.specs.Faults.{calls, has_call, CallsThrough}
 
 -- the number, or the greatest that is counted
@@ -89,3 +89,20 @@ module _ {S : Type 0} where
     pub settled : AreSettled now
     pub kept : (number : ℕ) → is_some (get nat_eq before number) ≡ true → is_some (get nat_eq now number) ≡ true
     pub begun : is_some (get nat_eq now start) ≡ true
+
+  -- Symbols with these numbers are all in the table.
+  abbrev pub AreBegun : List Symbol → IndexMap ℕ (Option Size) S → Type 0
+  AreBegun symbols table = (number : ℕ) → list_any (has_number number) symbols ≡ true → is_some (get nat_eq table number) ≡ true
+
+  -- The table has the size of each symbol.
+  pub record HasSizes (symbols : List Symbol) (table : IndexMap ℕ (Option Size) S) : Type 0 where
+    pub sizes : AreSizes symbols table
+    pub settled : AreSettled table
+    pub begun : AreBegun symbols table
+
+-- The file unfolds, and the unfolding has so many calls and that weight.
+pub record IsFileSize (file : Contents) (size : Size) : Type 0 where
+  pub placed : List Placed
+  pub unfolded : IsUnfolding file placed
+  pub calls : size.calls ≡ capped (calls_among placed)
+  pub weight : size.weight ≡ capped (weight_among placed)

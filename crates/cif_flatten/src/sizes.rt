@@ -10,7 +10,7 @@ ghost use Rattle.cif_flatten.specs.declared.sizes.Size.{Size};
 ghost use Rattle.cif_flatten.specs.declared.sizes.ItemSize.TheVariants.{Known, Waiting};
 ghost use Rattle.cif_flatten.specs.Unfolding.{items_of, call_count, weight as weight_of_what, figure_weight};
 ghost use Rattle.cif_flatten.specs.Faults.{calls};
-ghost use Rattle.cif_flatten.specs.Sizes.{capped, HasSize, called_by, AreSizes, AreSettled, IsWaiting, IsFrame, Recurses, Explored};
+ghost use Rattle.cif_flatten.specs.Sizes.{capped, HasSize, called_by, AreSizes, AreSettled, IsWaiting, IsFrame, Recurses, Explored, HasSizes};
 
 use cif_reader::{CifFile, Item, What};
 use indexmap::IndexMap;
@@ -94,6 +94,7 @@ fn called(item: &Item) -> Option<u32>
 }
 
 /// What is known of the size of an item.
+#[derive(Drop)]
 enum ItemSize {
     Known(Size),
     /// It calls a symbol whose size is not known.
@@ -201,4 +202,47 @@ fn explore(alloc: Global, file: &CifFile, sizes: &mut Sizes, number: u32) -> Res
             top = caller;
         }
     }
+}
+
+/// Measures a symbol, if it was not measured before.
+fn measure(alloc: Global, file: &CifFile, sizes: &mut Sizes, number: u32) -> Result<bool, AllocError>
+    requires sizes { AreSizes file.now.symbols sizes.old }
+    requires settled { AreSettled sizes.old }
+    ensures explored { IfOk result (λ done. done ≡ true → Explored file.now.symbols sizes.old sizes.new number) }
+    ensures recurses { IfOk result (λ done. done ≡ false → Recurses file.now.symbols) }
+{
+    if sizes.contains_key(&number) {
+        return Ok(true);
+    }
+    explore(alloc, file, sizes, number)
+}
+
+/// The sizes of all symbols, or `None` where a symbol calls itself, perhaps through others.
+fn all_sizes(alloc: Global, file: &CifFile) -> Result<Option<Sizes>, AllocError>
+    ensures sizes { IfOk result (λ found. IfSome found (λ sizes. HasSizes file.now.symbols sizes)) }
+    ensures recurses { IfOk result (λ found. IfNone found (Recurses file.now.symbols)) }
+{
+    let mut sizes = IndexMap::new(alloc);
+    for place in 0..file.symbol_count() {
+        if let Some(symbol) = file.symbol_at(place) {
+            if !measure(alloc, file, &mut sizes, symbol.number)? {
+                return Ok(None);
+            }
+        }
+    }
+    Ok(Some(sizes))
+}
+
+/// The size of the items of the top.
+fn top_size(file: &CifFile, sizes: &Sizes) -> Size
+    requires { HasSizes file.now.symbols sizes.now }
+    ensures { HasSize file.now.symbols file.now.top result }
+{
+    let mut size = Size::NOTHING;
+    for item in file.top() {
+        if let ItemSize::Known(more) = measured(file, sizes, item) {
+            size = size.plus(more);
+        }
+    }
+    size
 }

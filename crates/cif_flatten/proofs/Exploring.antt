@@ -1,6 +1,6 @@
 -- The search over the calls of symbols.
 use Rattle.std.proofs.Common.{◌≡◌, ◌⊎◌, inl, inr, ℕ, suc, add-one, get_or, ◌+◌, ◌-◌, ◌*◌, ◌<◌, ◌≤◌, length, map, Bool, true, false, not, cond, ◌||◌, List, [], ◌∷◌, ◌++◌, refl, sym, ap, ◌∙◌, subst, arith, rules, length-append, eqb-true, eq-eqb}
-use Rattle.std.specs.Prelude.{◌==◌, nat_eq, Option, Some, None, is_some, IfSome, IfNone, take, count_by}
+use Rattle.std.specs.Prelude.{◌==◌, nat_eq, Option, Some, None, is_some, find, IfSome, IfNone, take, count_by}
 use Rattle.std.specs.List.{list_any}
 use Rattle.std.proofs.Math.Seq.{take-suc}
 use Rattle.std.proofs.lemmas.List.Folds.{list_any-append}
@@ -14,9 +14,13 @@ use Rattle.cif_reader.specs.File.{has_number}
 use Rattle.cif_flatten.specs.declared.sizes.Size.{Size}
 use Rattle.cif_flatten.specs.declared.sizes.Frame.{Frame}
 use Rattle.cif_flatten.specs.Unfolding.{items_of}
-use Rattle.cif_flatten.specs.Faults.{calls, CallsAlong, CallsThrough}
-use Rattle.cif_flatten.specs.Sizes.{HasSize, AreSizes, AreSettled, IsWaiting, is_new, count_new, IsFrame, first_number, IsPath, IsOn, Recurses, Exploring, Explored, AreBegun, HasSizes}
-use Rattle.cif_flatten.proofs.Sizing.{size_nothing, nothing}
+use Rattle.cif_flatten.specs.Faults.{calls, CallsAlong, CallsThrough, Recurses, IsNested}
+use Rattle.cif_flatten.specs.Sizes.{HasSize, AreSizes, AreSettled, IsWaiting, is_new, count_new, IsFrame, first_number, IsPath, IsOn, Exploring, Explored, AreBegun, HasSizes}
+use Rattle.cif_flatten.specs.FileSize.{IsFileSize}
+use Rattle.cif_reader.specs.File.{Contents}
+use Rattle.cif_reader.proofs.Numbered.{some_any}
+use Rattle.cif_flatten.proofs.Nesting.{no_circle}
+use Rattle.cif_flatten.proofs.Sizing.{size_nothing, size_undefined, nothing}
 
 -- ---- paths
 
@@ -268,3 +272,23 @@ begun_more symbols before now i d inside begun e = λ n any.
 pub none_waits : {S : Type 0} (symbols : List Symbol) (table : IndexMap ℕ (Option Size) S) (n : ℕ) → HasSizes symbols table → IsWaiting symbols table n → ⊥
 none_waits symbols table n h (inl begun) = h.settled n begun
 none_waits symbols table n h (inr none) = false_true (ap is_some (sym none.0) ∙ h.begun n none.1)
+
+-- The size of the items of a number.
+record Sized (symbols : List Symbol) (number : ℕ) : Type 0 where
+  size : Size
+  has : HasSize symbols (items_of symbols number) size
+
+sized_case : {S : Type 0} (symbols : List Symbol) (table : IndexMap ℕ (Option Size) S) (n : ℕ) (known : Option (Option Size)) (any : Bool) → HasSizes symbols table → get nat_eq table n ≡ known → list_any (has_number n) symbols ≡ any → Sized symbols n
+unfolding nothing
+sized_case symbols table n (Some (Some size)) any h is e = record { size = size; has = h.sizes n size is }
+sized_case symbols table n (Some None) any h is e = absurd (h.settled n is)
+sized_case symbols table n None true h is e = absurd (false_true (ap is_some (sym is) ∙ h.begun n e))
+sized_case symbols table n None false h is e = record { size = nothing; has = size_undefined symbols n (some_any (has_number n) symbols ∙ e) }
+
+pub all_nested : {S : Type 0} (symbols : List Symbol) (table : IndexMap ℕ (Option Size) S) → HasSizes symbols table → IsNested symbols
+all_nested symbols table h = record {
+  none = λ n through. (let s = sized_case symbols table n (get nat_eq table n) (list_any (has_number n) symbols) h refl refl in no_circle symbols n [] 0 (s.has.placed [] 0) (s.has.unfolds [] 0) through);
+}
+
+pub file_size : (file : Contents) (size : Size) → HasSize file.symbols file.top size → IsFileSize file size
+file_size file size h = record { placed = h.placed [] 0; unfolded = h.unfolds [] 0; calls = h.calls [] 0; weight = h.weight [] 0 }

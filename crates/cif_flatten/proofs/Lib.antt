@@ -2,5 +2,6 @@ pub mod First
 pub mod Lookups
 pub mod Unfoldings
 pub mod Sizing
-pub mod Exploring
 pub mod Nesting
+pub mod Exploring
+pub mod Worked

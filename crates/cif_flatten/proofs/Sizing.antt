@@ -15,8 +15,8 @@ use Rattle.cif_flatten.specs.declared.sizes.Size.{Size}
 use Rattle.cif_reader.specs.File.{has_number}
 use Rattle.cif_flatten.specs.declared.sizes.ItemSize.{ItemSize}
 use Rattle.cif_flatten.specs.declared.sizes.ItemSize.TheVariants.{Known, Waiting}
-use Rattle.cif_flatten.specs.Unfolding.{Placed, opened, in_place, items_in, items_of, Unfolds, calls_among, weight_among, call_count, weight}
-use Rattle.cif_flatten.specs.Sizes.{HasSize, capped, called_by}
+use Rattle.cif_flatten.specs.Unfolding.{Placed, opened, in_place, items_in, items_of, Unfolds, calls_among, weight_among, call_count, weight, capped}
+use Rattle.cif_flatten.specs.Sizes.{HasSize, called_by}
 use Rattle.cif_flatten.proofs.Unfoldings.{unfolds_append}
 
 unfoldable pub nothing : Size

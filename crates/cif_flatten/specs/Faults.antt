@@ -83,13 +83,13 @@ pub record IsRecursive (file : Contents) (number : ℕ) : Type 0 where
   pub least : (other : ℕ) → CallsThrough file.symbols other other → number ≤ other
 
 -- No symbol calls itself.
-pub record IsNested (file : Contents) : Type 0 where
-  pub none : (number : ℕ) → CallsThrough file.symbols number number → ⊥
+pub record IsNested (symbols : List Symbol) : Type 0 where
+  pub none : (number : ℕ) → CallsThrough symbols number number → ⊥
 
 -- Some symbol calls itself.
-pub record HasRecursion (file : Contents) : Type 0 where
+pub record Recurses (symbols : List Symbol) : Type 0 where
   pub number : ℕ
-  pub itself : CallsThrough file.symbols number number
+  pub itself : CallsThrough symbols number number
 
 -- ---- how much is unfolded
 

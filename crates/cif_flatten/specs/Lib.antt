@@ -2,3 +2,4 @@ pub mod Flat
 pub mod Unfolding
 pub mod Faults
 pub mod Sizes
+pub mod FileSize

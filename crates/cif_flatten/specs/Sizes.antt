@@ -8,15 +8,11 @@ use Rattle.cif_reader.specs.declared.file.Item.{Item}
 use Rattle.cif_reader.specs.declared.file.Symbol.{Symbol}
 use Rattle.cif_reader.specs.declared.file.What.{What}
 use Rattle.cif_reader.specs.declared.file.What.TheVariants.{Draw, Call, Mark}
-use Rattle.cif_reader.specs.File.{Contents, has_number}
+use Rattle.cif_reader.specs.File.{has_number}
 use Rattle.cif_flatten.specs.declared.sizes.Size.{Size}
 use Rattle.cif_flatten.specs.declared.sizes.Frame.{Frame}
-use Rattle.cif_flatten.specs.Unfolding.{Placed, IsUnfolding, in_place, items_of, Unfolds, calls_among, weight_among}
-use Rattle.cif_flatten.specs.Faults.{calls, has_call, CallsThrough}
-
--- the number, or the greatest that is counted
-abbrev pub capped : ℕ → ℕ
-capped n = min n (2 ^ 64 - 1)
+use Rattle.cif_flatten.specs.Unfolding.{Placed, in_place, items_of, Unfolds, calls_among, weight_among, capped}
+use Rattle.cif_flatten.specs.Faults.{calls}
 
 -- Wherever the items are placed, they unfold, and have so many calls and that weight.
 pub record HasSize (symbols : List Symbol) (items : List Item) (size : Size) : Type 0 where
@@ -68,11 +64,6 @@ abbrev pub IsOn : ℕ → List Frame → ℕ → Type 0
 IsOn number [] top = number ≡ top
 IsOn number (frame ∷ frames) top = (number ≡ frame.number) ⊎ IsOn number frames top
 
--- A symbol calls itself.
-pub record Recurses (symbols : List Symbol) : Type 0 where
-  pub number : ℕ
-  pub itself : CallsThrough symbols number number
-
 module _ {S : Type 0} where
   -- The state of the search: a path of begun symbols, and the table.
   pub record Exploring (symbols : List Symbol) (before now : IndexMap ℕ (Option Size) S) (start : ℕ) (below : List Frame) (top : Frame) : Type 0 where
@@ -99,10 +90,3 @@ module _ {S : Type 0} where
     pub sizes : AreSizes symbols table
     pub settled : AreSettled table
     pub begun : AreBegun symbols table
-
--- The file unfolds, and the unfolding has so many calls and that weight.
-pub record IsFileSize (file : Contents) (size : Size) : Type 0 where
-  pub placed : List Placed
-  pub unfolded : IsUnfolding file placed
-  pub calls : size.calls ≡ capped (calls_among placed)
-  pub weight : size.weight ≡ capped (weight_among placed)

@@ -1,5 +1,5 @@
 -- How the calls of a layout unfold.
-use Rattle.std.specs.Prelude.{◌≡◌, ℕ, ◌+◌, Bool, true, false, List, [], ◌∷◌, ◌++◌, length, map, flat_map, find, Option, Some, None, sum_by}
+use Rattle.std.specs.Prelude.{◌≡◌, ℕ, ◌+◌, ◌-◌, ◌^◌, min, Bool, true, false, List, [], ◌∷◌, ◌++◌, length, map, flat_map, find, Option, Some, None, sum_by}
 use Rattle.plane_geom.specs.declared.shapes.Point.{Point}
 use Rattle.plane_geom.specs.declared.shapes.Shape.{Shape}
 use Rattle.plane_geom.specs.Covering.{Figure, block, polygon, wire, figure_of, moved_figure}
@@ -69,6 +69,10 @@ calls_among placed = sum_by (λ (c : Placed). call_count c.item.what) placed
 
 abbrev pub weight_among : List Placed → ℕ
 weight_among placed = sum_by (λ (c : Placed). weight c.item.what) placed
+
+-- the number, or 18,446,744,073,709,551,615 where it is greater
+abbrev pub capped : ℕ → ℕ
+capped n = min n (2 ^ 64 - 1)
 
 -- ---- what is left without the calls
 

@@ -7,3 +7,7 @@ mod sizes;
 
 pub use calls::{UndefinedCall, undefined_call};
 pub use flat::{Draw, Flat, Mark};
+pub use sizes::{Size, unfolded_size};
+
+#[cfg(test)]
+mod tests;

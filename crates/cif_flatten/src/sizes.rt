@@ -8,32 +8,34 @@ ghost use Rattle.cif_reader.specs.File.{has_number};
 ghost use Rattle.cif_reader.specs.declared.file.Symbol.{Symbol};
 ghost use Rattle.cif_flatten.specs.declared.sizes.Size.{Size};
 ghost use Rattle.cif_flatten.specs.declared.sizes.ItemSize.TheVariants.{Known, Waiting};
-ghost use Rattle.cif_flatten.specs.Unfolding.{items_of, call_count, weight as weight_of_what, figure_weight};
-ghost use Rattle.cif_flatten.specs.Faults.{calls};
-ghost use Rattle.cif_flatten.specs.Sizes.{capped, HasSize, called_by, AreSizes, AreSettled, IsWaiting, IsFrame, Recurses, Explored, HasSizes};
+ghost use Rattle.cif_flatten.specs.Unfolding.{items_of, call_count, weight as weight_of_what, figure_weight, capped};
+ghost use Rattle.cif_flatten.specs.FileSize.{IsFileSize};
+ghost use Rattle.cif_flatten.specs.Faults.{calls, Recurses, IsNested};
+ghost use Rattle.cif_flatten.specs.Sizes.{HasSize, called_by, AreSizes, AreSettled, IsWaiting, IsFrame, Explored, HasSizes};
 
 use cif_reader::{CifFile, Item, What};
 use indexmap::IndexMap;
 use plane_geom::Shape;
 use std::alloc::{AllocError, Global};
 
-/// How many calls there are, and how much the shapes and labels weigh. Each number stops at the greatest.
+/// How many calls there are, and how much the shapes and labels weigh. Each number stops at the greatest `u64`.
 #[derive(Clone, Copy, Debug, PartialEq, Eq)]
-pub(crate) struct Size {
-    pub(crate) calls: u64,
-    pub(crate) weight: u64,
+pub struct Size {
+    pub calls: u64,
+    /// A box or a label weighs 1, a wire or a polygon 1 a point.
+    pub weight: u64,
 }
 
 /// A symbol that is being measured: how many of its items are, and their size.
 #[derive(Clone, Copy, Debug)]
-pub(crate) struct Frame {
+struct Frame {
     number: u32,
     next: usize,
     size: Size,
 }
 
 /// The sizes of symbols by their numbers, and none as yet where one is being measured.
-pub(crate) type Sizes = IndexMap<u32, Option<Size>>;
+type Sizes = IndexMap<u32, Option<Size>>;
 
 impl Size {
     const NOTHING: Size = Size { calls: 0, weight: 0 };
@@ -47,6 +49,19 @@ impl Size {
             weight: self.weight.saturating_add(other.weight),
         }
     }
+}
+
+/// How much the file unfolds to from its top, in time linear in the file. It is `None` where a symbol calls itself,
+/// perhaps through others, called or not. A symbol that is not defined has no items.
+pub fn unfolded_size(alloc: Global, file: &CifFile) -> Result<Option<Size>, AllocError>
+    ensures size { IfOk result (λ found. IfSome found (λ size. IsFileSize file.now size)) }
+    ensures nested { IfOk result (λ found. IfSome found (λ size. IsNested file.now.symbols)) }
+    ensures recurses { IfOk result (λ found. IfNone found (Recurses file.now.symbols)) }
+{
+    let Some(sizes) = all_sizes(alloc, file)? else {
+        return Ok(None);
+    };
+    Ok(Some(top_size(file, &sizes)))
 }
 
 /// What a shape weighs.

@@ -1,14 +1,12 @@
 -- The search over the calls of symbols.
-use Rattle.std.proofs.Common.{◌≡◌, ◌⊎◌, inl, inr, ℕ, suc, add-one, get_or, ◌+◌, ◌-◌, ◌*◌, ◌<◌, ◌≤◌, length, map, Bool, true, false, not, cond, ◌||◌, List, [], ◌∷◌, ◌++◌, refl, sym, ap, ◌∙◌, subst, arith, rules, length-append, eqb-true, eq-eqb}
-use Rattle.std.specs.Prelude.{◌==◌, nat_eq, Option, Some, None, is_some, find, IfSome, IfNone, take, count_by}
+use Rattle.std.proofs.Common.{◌≡◌, ◌⊎◌, inl, inr, ℕ, add-one, get_or, ◌+◌, ◌*◌, ◌<◌, ◌≤◌, length, Bool, true, false, not, cond, ◌||◌, List, [], ◌∷◌, ◌++◌, refl, sym, ap, ◌∙◌, subst, arith, length-append, eqb-true, eq-eqb}
+use Rattle.std.specs.Prelude.{◌==◌, nat_eq, Option, Some, None, is_some, IfSome, IfNone, take, count_by}
 use Rattle.std.specs.List.{list_any}
 use Rattle.std.proofs.Math.Seq.{take-suc}
 use Rattle.std.proofs.lemmas.List.Folds.{list_any-append}
-use Rattle.std.proofs.lemmas.Bool.Decides.{nat_tests}
 use Rattle.std.proofs.lemmas.Option.{none-some}
 use Rattle.plane_geom.proofs.Counting.{count_cons}
 use Rattle.indexmap.specs.IndexMap.{IndexMap, get}
-use Rattle.cif_reader.specs.declared.file.Item.{Item}
 use Rattle.cif_reader.specs.declared.file.Symbol.{Symbol}
 use Rattle.cif_reader.specs.File.{has_number}
 use Rattle.cif_flatten.specs.declared.sizes.Size.{Size}

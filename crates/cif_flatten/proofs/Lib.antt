@@ -4,4 +4,5 @@ pub mod Unfoldings
 pub mod Sizing
 pub mod Nesting
 pub mod Exploring
+pub mod Circling
 pub mod Worked

@@ -1,5 +1,5 @@
 -- What is behind a reference that may be none.
-use Rattle.std.proofs.Common.{◌≡◌, ℕ, ◌<◌, length, get_or, List, refl, subst, inl, inr, Bor, sym, ◌∙◌, ap}
+use Rattle.std.proofs.Common.{◌≡◌, ℕ, length, get_or, List, refl, subst, inl, inr, Bor, sym, ◌∙◌}
 use Rattle.std.specs.Prelude.{Option, Some, None, is_some, IfSome, option_copied, slice_get, ◌≤◌}
 use Rattle.std.proofs.lemmas.Option.{get_or_from_slice_get, slice_get_cases, none-some}
 

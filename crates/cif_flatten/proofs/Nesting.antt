@@ -1,17 +1,12 @@
 -- What unfolds does not call itself.
-use Rattle.std.proofs.Common.{◌≡◌, ℕ, zero, suc, ◌+◌, ◌<◌, ◌≤◌, length, Bool, true, false, ◌||◌, List, [], ◌∷◌, ◌++◌, refl, sym, ap, ◌∙◌, subst, arith, eqb-true, length-append}
-use Rattle.std.specs.Prelude.{◌==◌, nat_eq, Option, Some, None, is_some, find, take}
-use Rattle.std.specs.List.{list_any}
-use Rattle.indexmap.specs.IndexMap.{IndexMap, get}
+use Rattle.std.proofs.Common.{◌≡◌, ℕ, zero, suc, ◌+◌, ◌<◌, ◌≤◌, length, Bool, true, false, ◌||◌, List, [], ◌∷◌, ◌++◌, refl, sym, ap, subst, arith, eqb-true, length-append}
 use Rattle.plane_geom.specs.Placement.{Step, steps_of}
 use Rattle.cif_reader.specs.declared.file.Item.{Item}
 use Rattle.cif_reader.specs.declared.file.Symbol.{Symbol}
 use Rattle.cif_reader.specs.declared.file.What.{What}
 use Rattle.cif_reader.specs.declared.file.What.TheVariants.{Draw, Call, Mark}
-use Rattle.cif_reader.specs.File.{has_number}
-use Rattle.cif_flatten.specs.declared.sizes.Size.{Size}
 use Rattle.cif_flatten.specs.Unfolding.{Placed, in_place, items_of, opened_by, Unfolds}
-use Rattle.cif_flatten.specs.Faults.{is_call_of, has_call, calls, CallsAlong, CallsThrough}
+use Rattle.cif_flatten.specs.Faults.{is_call_of, has_call, CallsAlong, CallsThrough}
 use Rattle.cif_flatten.proofs.Unfoldings.{Split, unfolds_split}
 
 -- The symbol unfolds somewhere to fewer commands.

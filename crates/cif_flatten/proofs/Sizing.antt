@@ -1,6 +1,6 @@
 -- Sizes of items, added.
-use Rattle.std.proofs.Common.{◌≡◌, ℕ, ◌+◌, ◌-◌, ◌^◌, ◌<◌, ◌≤◌, length, map, List, [], ◌∷◌, ◌++◌, suc, add-one, take, get_or, refl, sym, ap, ◌∙◌, subst, arith, rules}
-use Rattle.std.specs.Prelude.{min, Bool, true, false, Option, Some, None, is_some, find, sum_by}
+use Rattle.std.proofs.Common.{◌≡◌, ℕ, ◌+◌, ◌^◌, ◌<◌, length, List, [], ◌∷◌, ◌++◌, add-one, take, get_or, refl, sym, ap, ◌∙◌, subst, arith, rules}
+use Rattle.std.specs.Prelude.{min, true, false, Option, Some, None, is_some, find, sum_by}
 use Rattle.std.proofs.Math.Seq.{take-suc}
 use Rattle.std.proofs.lemmas.List.{append-nil, map-append}
 use Rattle.std.proofs.lemmas.List.Sums.{sum_by-cons, sum_by-append}
@@ -13,9 +13,8 @@ use Rattle.cif_reader.specs.declared.file.What.{What}
 use Rattle.cif_reader.specs.declared.file.What.TheVariants.{Draw, Call, Mark}
 use Rattle.cif_flatten.specs.declared.sizes.Size.{Size}
 use Rattle.cif_reader.specs.File.{has_number}
-use Rattle.cif_flatten.specs.declared.sizes.ItemSize.{ItemSize}
-use Rattle.cif_flatten.specs.declared.sizes.ItemSize.TheVariants.{Known, Waiting}
-use Rattle.cif_flatten.specs.Unfolding.{Placed, opened, in_place, items_in, items_of, Unfolds, calls_among, weight_among, call_count, weight, capped}
+use Rattle.cif_flatten.specs.declared.sizes.ItemSize.TheVariants.{Known}
+use Rattle.cif_flatten.specs.Unfolding.{Placed, opened, in_place, items_in, items_of, Unfolds, call_count, weight, capped}
 use Rattle.cif_flatten.specs.Sizes.{HasSize, called_by}
 use Rattle.cif_flatten.proofs.Unfoldings.{unfolds_append}
 

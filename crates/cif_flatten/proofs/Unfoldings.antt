@@ -1,10 +1,7 @@
 -- Unfoldings, joined and taken apart.
-use Rattle.std.proofs.Common.{◌≡◌, ℕ, ◌+◌, ◌<◌, ◌≤◌, length, List, [], ◌∷◌, ◌++◌, refl, sym, ap, ◌∙◌, subst, arith, append_assoc}
-use Rattle.std.specs.Prelude.{map, sum_by}
-use Rattle.std.proofs.lemmas.List.{append-nil}
-use Rattle.cif_reader.specs.declared.file.Item.{Item}
+use Rattle.std.proofs.Common.{◌≡◌, List, [], ◌∷◌, ◌++◌, refl, sym, ap, ◌∙◌, subst, append_assoc}
 use Rattle.cif_reader.specs.declared.file.Symbol.{Symbol}
-use Rattle.cif_flatten.specs.Unfolding.{Placed, opened, in_place, Unfolds}
+use Rattle.cif_flatten.specs.Unfolding.{Placed, opened, Unfolds}
 
 cons_not_nil : (x : Placed) (xs : List Placed) → x ∷ xs ≡ [] → ⊥
 cons_not_nil x xs h = cc

@@ -1,12 +1,12 @@
 -- Worked values of the definitions, each computed.
-use Rattle.std.proofs.Common.{◌≡◌, ℕ, ◌++◌, codes, List, [], ◌∷◌, true, false, Option, Some, None, refl}
+use Rattle.std.proofs.Common.{◌≡◌, ◌++◌, codes, [], ◌∷◌, true, false, None, refl}
 use Rattle.std.specs.Prelude.{ℤ, pos, negsuc}
 use Rattle.plane_geom.specs.declared.shapes.Point.{Point}
 use Rattle.plane_geom.specs.declared.shapes.Rect.{Rect}
 use Rattle.plane_geom.specs.declared.shapes.Shape.TheVariants.{Block}
 use Rattle.plane_geom.specs.declared.places.Place.{Place}
 use Rattle.plane_geom.specs.Covering.{block, wire}
-use Rattle.plane_geom.specs.Placement.{Step, shift, steps_of}
+use Rattle.plane_geom.specs.Placement.{shift, steps_of}
 use Rattle.cif_reader.specs.declared.file.What.{What}
 use Rattle.cif_reader.specs.declared.file.What.TheVariants.{Draw, Call, Mark}
 use Rattle.cif_flatten.specs.Unfolding.{drawn_by, marked_by, weight, opened_by}

@@ -1,5 +1,5 @@
 -- Why a file is not unfolded.
-use Rattle.std.specs.Prelude.{◌≡◌, ℕ, ◌<◌, ◌≤◌, ◌+◌, ◌*◌, ◌^◌, ◌==◌, suc, Bool, true, false, not, ◌&&◌, cond, ℤ, List, [], ◌∷◌, ◌++◌, length, map, flat_map, Option, Some, None, if◌then◌else◌}
+use Rattle.std.specs.Prelude.{◌≡◌, ℕ, ◌<◌, ◌≤◌, ◌+◌, ◌*◌, ◌^◌, ◌==◌, Bool, true, false, ℤ, List, [], ◌∷◌, ◌++◌, map, flat_map, Option, Some, None, if◌then◌else◌}
 use Rattle.std.specs.List.{list_any, All, Contains}
 use Rattle.std.specs.Ordering.{int_eq}
 use Rattle.plane_geom.specs.declared.shapes.Point.{Point}
@@ -9,7 +9,7 @@ use Rattle.plane_geom.specs.Covering.{Figure, block, polygon, wire, segments, wi
 use Rattle.cif_reader.specs.declared.file.Item.{Item}
 use Rattle.cif_reader.specs.declared.file.Symbol.{Symbol}
 use Rattle.cif_reader.specs.declared.file.What.{What}
-use Rattle.cif_reader.specs.declared.file.What.TheVariants.{Draw, Call, Mark}
+use Rattle.cif_reader.specs.declared.file.What.TheVariants.{Call}
 use Rattle.cif_reader.specs.File.{Contents, has_number}
 use Rattle.cif_flatten.specs.declared.calls.UndefinedCall.{UndefinedCall}
 use Rattle.cif_flatten.specs.Unfolding.{items_of, Placed, Drawn, Marked, IsUnfolding, calls_among, weight_among, drawn, marked}

@@ -3,3 +3,4 @@ pub mod Unfolding
 pub mod Faults
 pub mod Sizes
 pub mod FileSize
+pub mod Reaching

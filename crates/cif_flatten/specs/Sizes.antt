@@ -1,13 +1,12 @@
 -- What is known of the sizes of symbols while they are found. No promise to users cites these words.
-use Rattle.std.specs.Prelude.{◌≡◌, ℕ, ◌+◌, ◌-◌, ◌^◌, ◌<◌, ◌≤◌, ◌⊎◌, min, Bool, true, false, not, is_some, List, [], ◌∷◌, ◌++◌, take, length, Option, Some, None, nat_eq, count_by}
-use Rattle.std.specs.Global.{Global}
+use Rattle.std.specs.Prelude.{◌≡◌, ℕ, ◌≤◌, ◌⊎◌, Bool, true, not, is_some, List, [], ◌∷◌, take, length, Option, Some, None, nat_eq, count_by}
 use Rattle.std.specs.List.{list_any}
 use Rattle.plane_geom.specs.Placement.{Step}
 use Rattle.indexmap.specs.IndexMap.{IndexMap, get}
 use Rattle.cif_reader.specs.declared.file.Item.{Item}
 use Rattle.cif_reader.specs.declared.file.Symbol.{Symbol}
 use Rattle.cif_reader.specs.declared.file.What.{What}
-use Rattle.cif_reader.specs.declared.file.What.TheVariants.{Draw, Call, Mark}
+use Rattle.cif_reader.specs.declared.file.What.TheVariants.{Call}
 use Rattle.cif_reader.specs.File.{has_number}
 use Rattle.cif_flatten.specs.declared.sizes.Size.{Size}
 use Rattle.cif_flatten.specs.declared.sizes.Frame.{Frame}

@@ -1,7 +1,6 @@
 -- How the calls of a layout unfold.
-use Rattle.std.specs.Prelude.{◌≡◌, ℕ, ◌+◌, ◌-◌, ◌^◌, min, Bool, true, false, List, [], ◌∷◌, ◌++◌, length, map, flat_map, find, Option, Some, None, sum_by}
+use Rattle.std.specs.Prelude.{◌≡◌, ℕ, ◌+◌, ◌-◌, ◌^◌, min, List, [], ◌∷◌, ◌++◌, length, map, flat_map, find, Option, Some, None, sum_by}
 use Rattle.plane_geom.specs.declared.shapes.Point.{Point}
-use Rattle.plane_geom.specs.declared.shapes.Shape.{Shape}
 use Rattle.plane_geom.specs.Covering.{Figure, block, polygon, wire, figure_of, moved_figure}
 use Rattle.plane_geom.specs.Placement.{Step, moved, steps_of}
 use Rattle.cif_reader.specs.declared.file.Item.{Item}

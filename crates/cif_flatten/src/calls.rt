@@ -63,7 +63,7 @@ fn undefined_at(file: &CifFile, item: &Item) -> Option<UndefinedCall>
 }
 
 /// Whether a symbol of that number is defined.
-fn is_defined(file: &CifFile, number: u32) -> bool
+pub(crate) fn is_defined(file: &CifFile, number: u32) -> bool
     ensures { result ≡ list_any (has_number number) file.now.symbols }
 {
     file.symbol(number).is_some()

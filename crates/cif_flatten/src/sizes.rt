@@ -38,7 +38,10 @@ struct Frame {
 type Sizes = IndexMap<u32, Option<Size>>;
 
 impl Size {
-    const NOTHING: Size = Size { calls: 0, weight: 0 };
+    const NOTHING: Size = Size {
+        calls: 0,
+        weight: 0,
+    };
 
     fn plus(self, other: Size) -> Size
         ensures calls { result.calls ≡ capped (self.calls + other.calls) }
@@ -99,7 +102,7 @@ fn own_size(item: &Item) -> Size
 }
 
 /// The number that an item calls.
-fn called(item: &Item) -> Option<u32>
+pub(crate) fn called(item: &Item) -> Option<u32>
     ensures { result ≡ called_by item.now.what }
 {
     match item.what {
@@ -168,11 +171,25 @@ fn advance(file: &CifFile, sizes: &Sizes, frame: Frame) -> (Frame, Option<u32>)
                 next += 1;
             }
             ItemSize::Waiting(number) => {
-                return (Frame { next, size, ..frame }, Some(number));
+                return (
+                    Frame {
+                        next,
+                        size,
+                        ..frame
+                    },
+                    Some(number),
+                );
             }
         }
     }
-    (Frame { next, size, ..frame }, None)
+    (
+        Frame {
+            next,
+            size,
+            ..frame
+        },
+        None,
+    )
 }
 
 impl Frame {
@@ -191,7 +208,12 @@ impl Frame {
 
 /// Measures a symbol that was not begun, after all that it calls through others. It is `false` where a symbol calls itself,
 /// perhaps through others.
-fn explore(alloc: Global, file: &CifFile, sizes: &mut Sizes, number: u32) -> Result<bool, AllocError>
+fn explore(
+    alloc: Global,
+    file: &CifFile,
+    sizes: &mut Sizes,
+    number: u32,
+) -> Result<bool, AllocError>
     requires sizes { AreSizes file.now.symbols sizes.old }
     requires settled { AreSettled sizes.old }
     ensures explored { IfOk result (λ done. done ≡ true → Explored file.now.symbols sizes.old sizes.new number) }
@@ -220,7 +242,12 @@ fn explore(alloc: Global, file: &CifFile, sizes: &mut Sizes, number: u32) -> Res
 }
 
 /// Measures a symbol, if it was not measured before.
-fn measure(alloc: Global, file: &CifFile, sizes: &mut Sizes, number: u32) -> Result<bool, AllocError>
+fn measure(
+    alloc: Global,
+    file: &CifFile,
+    sizes: &mut Sizes,
+    number: u32,
+) -> Result<bool, AllocError>
     requires sizes { AreSizes file.now.symbols sizes.old }
     requires settled { AreSettled sizes.old }
     ensures explored { IfOk result (λ done. done ≡ true → Explored file.now.symbols sizes.old sizes.new number) }

@@ -1,5 +1,4 @@
-use Rattle.std.specs.List.{All}
-use Rattle.std.proofs.Common.{subst, ◌≡◌}
+use Rattle.std.proofs.Common.{subst}
 use Rattle.std.proofs.lemmas.List.{take_all}
 use Rattle.cif_reader.specs.declared.file.Item.{Item}
 use Rattle.cif_flatten.specs.Faults.{undefined_by, undefined_among, IsFirstIfAny}

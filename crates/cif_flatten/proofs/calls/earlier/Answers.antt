@@ -1,4 +1,3 @@
-use Rattle.std.proofs.Common.{arith}
 use Rattle.cif_flatten.proofs.First.{first_other}
 use Rattle.cif_flatten.proofs.calls.earlier.Goals as goal
 

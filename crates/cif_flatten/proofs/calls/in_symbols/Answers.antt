@@ -1,5 +1,4 @@
-use Rattle.std.proofs.Common.{ℕ, subst, take, ◌+◌, ◌≡◌, arith, ◌<◌, ◌≤◌, length, sym, ap, ◌∙◌}
-use Rattle.std.proofs.lemmas.List.{take_all}
+use Rattle.std.proofs.Common.{ℕ, subst, take, ◌+◌, ◌≡◌, arith, ◌<◌, ◌≤◌, sym}
 use Rattle.cif_reader.specs.declared.file.Symbol.{Symbol}
 use Rattle.cif_flatten.specs.Faults.{undefined_among, undefined_in_symbols, IsFirstIfAny}
 use Rattle.cif_flatten.proofs.First.{step}

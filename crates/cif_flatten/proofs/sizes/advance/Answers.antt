@@ -1,4 +1,4 @@
-use Rattle.std.proofs.Common.{◌≡◌, ◌<◌, length, List, [], ◌∷◌, refl, subst, arith, get_or}
+use Rattle.std.proofs.Common.{◌<◌, length, [], ◌∷◌, refl, subst, arith}
 use Rattle.cif_reader.specs.declared.file.Item.{Item}
 use Rattle.cif_flatten.specs.Sizes.{HasSize}
 use Rattle.cif_flatten.proofs.Sizing.{size_step}

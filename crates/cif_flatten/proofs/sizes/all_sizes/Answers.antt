@@ -1,6 +1,6 @@
-use Rattle.std.proofs.Common.{◌≡◌, ℕ, ◌+◌, ◌<◌, ◌≤◌, length, take, subst, sym, ap, ◌∙◌, arith}
+use Rattle.std.proofs.Common.{◌≡◌, ℕ, ◌<◌, ◌≤◌, subst, sym, arith}
 use Rattle.cif_reader.specs.declared.file.Symbol.{Symbol}
-use Rattle.cif_flatten.specs.Sizes.{AreSizes, AreSettled, AreBegun, Explored}
+use Rattle.cif_flatten.specs.Sizes.{Explored}
 use Rattle.cif_flatten.proofs.Lookups.{here, not_past}
 use Rattle.cif_flatten.proofs.Exploring.{begun_more}
 use Rattle.cif_flatten.proofs.sizes.all_sizes.Goals as goal

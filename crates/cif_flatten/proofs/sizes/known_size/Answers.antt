@@ -1,4 +1,4 @@
-use Rattle.std.proofs.Common.{◌≡◌, ap, sym, ◌∙◌, inr}
+use Rattle.std.proofs.Common.{ap, sym, ◌∙◌, inr}
 use Rattle.std.specs.Prelude.{is_some}
 use Rattle.cif_reader.specs.File.{has_number}
 use Rattle.cif_reader.proofs.Numbered.{some_any}

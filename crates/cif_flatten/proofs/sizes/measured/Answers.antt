@@ -1,5 +1,4 @@
-use Rattle.std.proofs.Common.{◌≡◌, sym, ◌∙◌, subst, List, [], ◌∷◌}
-use Rattle.cif_flatten.specs.declared.sizes.Size.{Size}
+use Rattle.std.proofs.Common.{sym, ◌∙◌, subst, [], ◌∷◌}
 use Rattle.cif_flatten.specs.Sizes.{HasSize}
 use Rattle.cif_flatten.proofs.Sizing.{size_alone, size_called, known_is}
 use Rattle.cif_flatten.proofs.sizes.measured.Goals as goal

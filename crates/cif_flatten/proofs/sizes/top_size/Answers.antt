@@ -1,4 +1,4 @@
-use Rattle.std.proofs.Common.{◌≡◌, get_or, ℕ, ◌+◌, ◌<◌, ◌≤◌, length, take, List, [], ◌∷◌, subst, sym, ap, ◌∙◌, arith, refl}
+use Rattle.std.proofs.Common.{◌≡◌, get_or, ◌+◌, ◌<◌, length, take, [], ◌∷◌, subst, sym, refl}
 use Rattle.cif_reader.specs.declared.file.Item.{Item}
 use Rattle.cif_flatten.specs.Sizes.{HasSize}
 use Rattle.cif_flatten.proofs.Sizing.{size_nothing, nothing, size_step}

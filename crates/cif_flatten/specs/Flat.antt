@@ -1,5 +1,5 @@
 -- What is left of a layout when its calls are unfolded.
-use Rattle.std.specs.Prelude.{ℕ, ◌^◌, List}
+use Rattle.std.specs.Prelude.{ℕ, List}
 use Rattle.std.specs.List.{All}
 use Rattle.plane_geom.specs.declared.shapes.Rect.{Rect}
 use Rattle.plane_geom.specs.declared.shapes.Shape.{Shape}

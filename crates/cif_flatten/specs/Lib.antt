@@ -1,1 +1,6 @@
 pub mod Flat
+pub mod Unfolding
+pub mod Faults
+pub mod Sizes
+pub mod FileSize
+pub mod Reaching

@@ -3,3 +3,7 @@ pub mod Solving
 pub mod Novelty
 pub mod Teaching
 pub mod Formulas
+pub mod TextWords
+pub mod FormulaText
+pub mod FormulaFaults
+pub mod Readers

@@ -1,8 +1,12 @@
-//! Laws of clauses that teach.
+//! Laws of clauses that teach, and of texts that spell formulas.
 
-ghost use Rattle.std.specs.Prelude.{◌≡◌, ◌≢◌, ℤ, pos, List, All, Contains};
+ghost use Rattle.std.specs.Prelude.{◌≡◌, ◌≢◌, ℕ, ℤ, pos, List, All, Contains};
 ghost use Rattle.clause_base.specs.Novelty.{IsNew};
 ghost use Rattle.clause_base.specs.Teaching.{Teaches};
+ghost use Rattle.clause_base.specs.Formulas.{Clauses};
+ghost use Rattle.clause_base.specs.FormulaText.{SpellsFormula};
+ghost use Rattle.clause_base.specs.FormulaFaults.{IsFormulaFault};
+ghost use Rattle.clause_base.specs.declared.faults.FormulaFault.{FormulaFault};
 
 /// A clause that teaches has no earlier clause as a subset.
 pub fn teaching_is_no_superset()
@@ -12,4 +16,12 @@ pub fn teaching_is_no_superset()
 /// A clause of literals that teaches is new.
 pub fn teaching_is_new()
     ensures { (earlier : List (List ℤ)) (clause : List ℤ) → All (λ l. l ≢ pos 0) clause → Teaches earlier clause → IsNew earlier clause }
+{}
+
+/// A text of a formula is read or refused, and not both: it spells one formula at most, and has one first fault at most.
+/// So a refusal comes exactly where it is the first at fault.
+pub fn one_answer()
+    ensures formula { (text : List ℕ) (f g : Clauses) → SpellsFormula text f → SpellsFormula text g → f ≡ g }
+    ensures fault { (text : List ℕ) (f g : FormulaFault) → IsFormulaFault text f → IsFormulaFault text g → f ≡ g }
+    ensures not_both { (text : List ℕ) (f : Clauses) (fault : FormulaFault) → SpellsFormula text f → IsFormulaFault text fault → ⊥ }
 {}

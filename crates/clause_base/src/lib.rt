@@ -9,14 +9,21 @@
 #![tactic(auto)]
 
 mod clauses;
+mod faults;
 mod formulas;
 mod laws;
 mod literals;
+mod numbers;
+mod parts;
+mod reading;
+mod words;
 
 pub use clauses::{Clause, distinct, normal};
+pub use faults::FormulaFault;
 pub use formulas::{Formula, solves};
-pub use laws::{teaching_is_new, teaching_is_no_superset};
+pub use laws::{one_answer, teaching_is_new, teaching_is_no_superset};
 pub use literals::Lit;
+pub use reading::read_formula;
 
 #[cfg(test)]
 mod tests;

@@ -6,3 +6,4 @@ pub mod NumberLemmas
 pub mod ReadingLemmas
 pub mod FormulaLemmas
 pub mod FaultLemmas
+pub mod Worked

@@ -2,8 +2,9 @@
 //!
 //! A literal is a variable or its negation, a clause is a list of literals of which one must be true, and a formula is
 //! a list of clauses. The crate promises that `solves` tells exactly whether values make each clause true, and that
-//! `distinct` and `normal` keep the set of a clause's literals. Its definitions say when a clause is new, and when it
-//! teaches unit propagation something new; its laws tie these together.
+//! `distinct` and `normal` keep the set of a clause's literals. `read_formula` gives the one formula that a text spells,
+//! or the text's first fault at its exact position. The definitions say when a clause is new, and when it teaches unit
+//! propagation something new; the laws tie these together.
 //!
 //! The arena of clauses, the checker of derivations, the solver and the encoding of tests stand on it.
 #![tactic(auto)]

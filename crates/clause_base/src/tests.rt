@@ -1,4 +1,4 @@
-use crate::{Clause, Formula, Lit, distinct, normal, solves};
+use crate::{Clause, Formula, FormulaFault, Lit, distinct, normal, read_formula, solves};
 use std::alloc::{AllocError, Global};
 use std::test::Fail;
 
@@ -73,6 +73,62 @@ fn values_solve_a_formula(rt: HostRuntime) -> Result<(), Fail> {
     for (values, is_solved) in rows {
         assert_eq!(rt; formula.vars(), 2);
         assert_eq!(rt; solves(&formula, values.as_slice()), is_solved);
+    }
+    Ok(())
+}
+
+#[test]
+fn texts_spell_formulas(rt: HostRuntime) -> Result<(), Fail> {
+    let alloc = rt.alloc();
+    let rows: [(&[u8], u32, &[&[i32]]); 5] = [
+        (b"p cnf 1 1\n1 0\n%\n0\n", 1, &[&[1]]),
+        (
+            b"c top\np\nc between\n cnf 2 2\n2 -1\nc inside\r\n2 0 1\t-1 0\r\n",
+            2,
+            &[&[2, -1, 2], &[1, -1]],
+        ),
+        (b"p cnf 0 0", 0, &[]),
+        (b"\r\n p cnf 3 1 0 %p cnf", 3, &[&[]]),
+        (b"p cnf 1000000 1 -1000000 0", 1_000_000, &[&[-1_000_000]]),
+    ];
+    for (text, vars, clauses) in rows {
+        let Ok(formula) = read_formula(alloc, text) else {
+            return Err(Fail::from("a formula"));
+        };
+        assert_eq!(rt; formula.vars(), vars);
+        assert_eq!(rt; formula.clauses().len(), clauses.len());
+        for (clause, numbers) in formula.clauses().iter().zip(clauses) {
+            let expected = lits(alloc, numbers)?;
+            assert_eq!(rt; clause.as_slice(), expected.as_slice());
+        }
+    }
+    Ok(())
+}
+
+#[test]
+fn first_faults_are_told(rt: HostRuntime) -> Result<(), Fail> {
+    let alloc = rt.alloc();
+    let rows: [(&[u8], FormulaFault); 14] = [
+        (b"", FormulaFault::Syntax(0)),
+        (b"c only a comment\n", FormulaFault::Syntax(17)),
+        (b" c 1 1", FormulaFault::Syntax(1)),
+        (b"p\ncnf 1 1\n1 0", FormulaFault::Syntax(10)),
+        (b"p cnf 01 1 1 0", FormulaFault::Syntax(6)),
+        (b"p cnf 1 x", FormulaFault::Syntax(8)),
+        (b"p cnf 1000001 x", FormulaFault::TooLarge(6)),
+        (b"p cnf 1 4000001", FormulaFault::TooLarge(8)),
+        (b"p cnf 99999999999999999999999", FormulaFault::TooLarge(6)),
+        (b"p cnf 1 1 2 0", FormulaFault::Syntax(10)),
+        (b"p cnf 1 1 -0 0", FormulaFault::Syntax(10)),
+        (b"p cnf 1 1 1", FormulaFault::Syntax(11)),
+        (b"p cnf 1 1 % 0", FormulaFault::Syntax(10)),
+        (b"p cnf 1 1 1 0 1", FormulaFault::Syntax(14)),
+    ];
+    for (text, fault) in rows {
+        match read_formula(alloc, text) {
+            Ok(_) => return Err(Fail::from("a fault")),
+            Err(found) => assert_eq!(rt; found, fault),
+        }
     }
     Ok(())
 }

@@ -1,13 +1,15 @@
 -- Words spell one formula at most, and what may stand behind the first of them.
-use Rattle.std.proofs.Common.{◌≡◌, inl, inr, ℕ, zero, suc, ◌-◌, ◌^◌, ◌<◌, ◌≤◌, ℤ, pos, negsuc, true, ◌&&◌, List, [], ◌∷◌, ◌++◌, length, map, codes, refl, sym, ap, ◌∙◌, subst, arith, append_assoc, length-append}
+use Rattle.std.proofs.Common.{◌≡◌, inl, inr, ℕ, zero, suc, ◌-◌, ◌^◌, ◌<◌, ◌≤◌, ℤ, pos, negsuc, true, ◌&&◌, nat_lt, nat_le, nat_abs, List, [], ◌∷◌, ◌++◌, length, get_or, map, codes, refl, sym, ap, ◌∙◌, subst, arith, append_assoc, length-append}
 use Rattle.std.specs.List.{list_all, flat_map}
 use Rattle.std.specs.Fmt.{decimal, signed_decimal}
 use Rattle.std.specs.Int.Signed.{mag}
+use Rattle.std.proofs.lemmas.Bool.Decides.{nat_tests}
 use Rattle.std.proofs.lemmas.Fmt.{decimal_digit, decimal_injective, signed_decimal_injective}
 use Rattle.std.proofs.lemmas.List.{append-nil}
 use Rattle.std.proofs.lemmas.List.Folds.{list_all-append}
+use Rattle.std.proofs.lemmas.List.Sums.{AllPass-from_list_all}
 use Rattle.std.proofs.lemmas.Grind.{flat_map-append}
-use Rattle.clause_base.specs.Formulas.{Clauses}
+use Rattle.clause_base.specs.Formulas.{Clauses, IsFormula}
 use Rattle.clause_base.specs.FormulaText.{most_vars, most_clauses, is_literal_of, clause_texts, IsEnd, AreWords}
 use Rattle.clause_base.specs.FormulaFaults.{IsFront}
 use Rattle.clause_base.specs.Readers.{Begins, GoesOn, are_literals}
@@ -81,6 +83,17 @@ module _ (vars : ℕ) (few : vars ≤ most_vars) where
       let b = both (are_literals vars d) (list_all (are_literals vars) ds) q in
       let first = same_clause c d (flat_map clause_texts cs ++ (map signed_decimal lits ++ tail)) (flat_map clause_texts ds ++ behind) a.0 b.0 (sym (append_assoc (clause_texts c) (flat_map clause_texts cs) (map signed_decimal lits ++ tail)) ∙ e ∙ append_assoc (clause_texts d) (flat_map clause_texts ds) behind) in
       goes_on_behind cs ds lits tail behind a.1 b.1 r (omega (arith, fewer)) first.1
+
+few_of : (vars : ℕ) (l : ℤ) → is_literal_of vars l ≡ true → nat_abs l ≤ vars
+few_of vars l is = let h = both (nat_lt 0 (nat_abs l)) (nat_le (nat_abs l) vars) is in grind (arith, nat_tests, h.1)
+
+-- clauses of literals within the limits make a formula
+pub is_formula : (vars count : ℕ) (cs : List (List ℤ)) → vars ≤ most_vars → count ≤ most_clauses → length cs ≡ count → list_all (are_literals vars) cs ≡ true → IsFormula vars cs
+is_formula vars count cs few fewer all literals = record {
+  few_vars = omega (arith, few);
+  few_clauses = omega (arith, fewer, all);
+  over = λ k d lt j e jlt. few_of vars (get_or (get_or cs k d) j e) (AllPass-from_list_all (is_literal_of vars) (get_or cs k d) (AllPass-from_list_all (are_literals vars) cs literals k d lt) j e jlt);
+}
 
 -- ---- headers
 

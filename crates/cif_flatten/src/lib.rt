@@ -10,12 +10,19 @@
 
 mod calls;
 mod circles;
+mod corners;
 mod flat;
+mod flattening;
+mod placing;
+mod refusal;
 mod sizes;
+mod unfolding;
 
 pub use calls::{UndefinedCall, undefined_call};
 pub use circles::recursive_symbol;
 pub use flat::{Draw, Flat, Mark};
+pub use flattening::flatten;
+pub use refusal::FlattenRefusal;
 pub use sizes::{Size, unfolded_size};
 
 #[cfg(test)]

@@ -12,4 +12,5 @@ pub mod Shapes
 pub mod Wires
 pub mod Walked
 pub mod Judged
+pub mod OneAnswer
 pub mod Worked

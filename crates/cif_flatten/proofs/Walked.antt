@@ -169,8 +169,11 @@ first_calls symbols c d (e ∷ rest) commands u = omega (arith, ap (λ (x : Plac
 
 pub last_few : (file : Contents) (fuel : ℕ) (commands before pending : List Command) (c : Command) → Walking file fuel commands before → before ≡ pending ++ c ∷ [] → c.depth + call_count c.item.now.what ≤ most_calls
 last_few file fuel commands before pending c w is =
-    omega (arith, (popped_shallow (calls_among w.unrolling.rest) before pending c is w.shallow).1.few,
-    first_calls file.symbols (placed_of c) (placed_of c) w.unrolling.rest (waiting pending) (subst (λ xs. Unfolds file.symbols xs w.unrolling.rest) (ap waiting is ∙ waiting_push pending c) w.unrolling.unfolds))
+    omega (
+      arith,
+      (popped_shallow (calls_among w.unrolling.rest) before pending c is w.shallow).1.few,
+      first_calls file.symbols (placed_of c) (placed_of c) w.unrolling.rest (waiting pending) (subst (λ xs. Unfolds file.symbols xs w.unrolling.rest) (ap waiting is ∙ waiting_push pending c) w.unrolling.unfolds),
+    )
 
 -- ---- the start
 

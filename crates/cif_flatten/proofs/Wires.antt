@@ -23,7 +23,7 @@ edge_more : (half : ℤ) (from : Point) (rest : List Point) (i : ℕ) (d : Point
 edge_more half from rest i d inside =
     let one : flat_map (ends half) (edges_from from (drop i rest)) ≡ flat_map (ends half) (edges_from from (get_or rest i d ∷ drop (suc i) rest)) = ap (λ xs. flat_map (ends half) (edges_from from xs)) (drop-cons rest i d inside) in
     let other : ends half (from, get_or rest i d) ++ flat_map (ends half) (edges_from (get_or rest i d) (drop (suc i) rest)) ≡ ends half (from, get_or rest i d) ++ flat_map (ends half) (edges_from (get_or rest i d) (drop (i + 1) rest)) =
-        ap (λ n. ends half (from, get_or rest i d) ++ flat_map (ends half) (edges_from (get_or rest i d) (drop n rest))) (sym (add-one i)) in
+    ap (λ n. ends half (from, get_or rest i d) ++ flat_map (ends half) (edges_from (get_or rest i d) (drop n rest))) (sym (add-one i)) in
     one ∙ other
 
 pub wire_step : (half : ℤ) (points now whole : List Point) (from : Point) (rest : List Point) (i : ℕ) (d : Point) (rect : Rect) → i < length rest → rect ≡ widened half (from, get_or rest i d) → now ≡ points ++ rect_corners rect

@@ -96,11 +96,7 @@ fn add_ends(points: &mut Vec<Point>, rect: Rect) -> Result<(), AllocError>
 }
 
 /// Adds the corners of the widened segments of a wire.
-fn add_wire_corners(
-    points: &mut Vec<Point>,
-    half: i64,
-    path: &[Point],
-) -> Result<(), AllocError>
+fn add_wire_corners(points: &mut Vec<Point>, half: i64, path: &[Point]) -> Result<(), AllocError>
     requires thick { IsWithin (2 ^ 60) half }
     requires near { All (IsPointWithin (2 ^ 60)) path.now }
     ensures { OnOk result (points.new.items ≡ points.old.items ++ corners (wire half path.now)) }

@@ -133,10 +133,7 @@ fn is_wide_at(half: i64, z: i64) -> bool
 }
 
 /// The placed shapes of the commands, in order.
-pub(crate) fn placed_draws(
-    alloc: Global,
-    commands: &[Command<'_>],
-) -> Result<Vec<Draw>, AllocError>
+pub(crate) fn placed_draws(alloc: Global, commands: &[Command<'_>]) -> Result<Vec<Draw>, AllocError>
     requires placeable { All IsPlaceable commands.now }
     requires inside { All (λ c. IsIn (placed_of c)) commands.now }
     ensures draws { IfOk result (λ draws. map drawn_of draws.items ≡ drawn (map placed_of commands.now)) }
@@ -151,11 +148,7 @@ pub(crate) fn placed_draws(
 }
 
 /// Adds the placed shape of the command, if it is one.
-fn add_draw(
-    alloc: Global,
-    draws: &mut Vec<Draw>,
-    command: &Command<'_>,
-) -> Result<(), AllocError>
+fn add_draw(alloc: Global, draws: &mut Vec<Draw>, command: &Command<'_>) -> Result<(), AllocError>
     requires placeable { IsPlaceable command.now }
     requires inside { IsIn (placed_of command.now) }
     ensures draws { OnOk result (map drawn_of draws.new.items ≡ map drawn_of draws.old.items ++ drawn_by (steps_of command.now.place) command.now.item.now.pos command.now.item.now.what) }
@@ -246,10 +239,7 @@ fn placed_point(place: Place, p: Point) -> Point
 }
 
 /// The placed labels of the commands, in order.
-pub(crate) fn placed_marks(
-    alloc: Global,
-    commands: &[Command<'_>],
-) -> Result<Vec<Mark>, AllocError>
+pub(crate) fn placed_marks(alloc: Global, commands: &[Command<'_>]) -> Result<Vec<Mark>, AllocError>
     requires placeable { All IsPlaceable commands.now }
     requires inside { All (λ c. IsIn (placed_of c)) commands.now }
     ensures marks { IfOk result (λ marks. map marked_of marks.items ≡ marked (map placed_of commands.now)) }
@@ -263,11 +253,7 @@ pub(crate) fn placed_marks(
 }
 
 /// Adds the placed label of the command, if it is one.
-fn add_mark(
-    alloc: Global,
-    marks: &mut Vec<Mark>,
-    command: &Command<'_>,
-) -> Result<(), AllocError>
+fn add_mark(alloc: Global, marks: &mut Vec<Mark>, command: &Command<'_>) -> Result<(), AllocError>
     requires placeable { IsPlaceable command.now }
     requires inside { IsIn (placed_of command.now) }
     ensures marks { OnOk result (map marked_of marks.new.items ≡ map marked_of marks.old.items ++ marked_by (steps_of command.now.place) command.now.depth command.now.item.now.pos command.now.item.now.what) }

@@ -9,5 +9,5 @@ returns-then-is_wide_at c = (
     x = wide_at _ _ _ _ (omega (arith, ints)) (omega (arith, ints)) (c.is_wide_at.ensures.0 c.if-is_wide_at.true);
     y = wide_at _ _ _ _ (omega (arith, ints)) (omega (arith, ints)) (c.is_wide_at-then-is_wide_at.ensures.0 h);
   },
-  λ w. c.is_wide_at-then-is_wide_at.ensures.1 (wide_at _ _ _ _ (omega (arith, ints)) (omega (arith, ints)) w.y)
+  λ w. c.is_wide_at-then-is_wide_at.ensures.1 (wide_at _ _ _ _ (omega (arith, ints)) (omega (arith, ints)) w.y),
 )

@@ -34,8 +34,12 @@ same_undefined file a b apart h k =
     λ i. Undefined (at i) (apart.apart a b h.one k.one at i)
 
 before : (file : Contents) (p q : ℕ) → IsOutOfRange file p → IsOutOfRange file q → p ≤ q
-before file p q h k = omega (arith, k.at, All-contains (λ (r : Reaching). (IsInRange r → ⊥) → p ≤ r.pos) (reaching h.placed) k.reach h.least
-    (subst (λ cs. Contains (reaching cs) k.reach) (one_of_file file k.placed h.placed k.unfolded h.unfolded) k.one) k.out)
+before file p q h k = omega (
+  arith,
+  k.at,
+  All-contains (λ (r : Reaching). (IsInRange r → ⊥) → p ≤ r.pos) (reaching h.placed) k.reach h.least
+      (subst (λ cs. Contains (reaching cs) k.reach) (one_of_file file k.placed h.placed k.unfolded h.unfolded) k.one) k.out,
+)
 
 same_fault : (file : Contents) (r s : FlattenRefusal) → AreCallsApart file → row r ≡ row s → HasFault file r → HasFault file s → r ≡ s
 same_fault file (Undefined place symbol) (Undefined place' symbol') apart e h k = same_undefined file (record { pos = place; symbol = symbol }) (record { pos = place'; symbol = symbol' }) apart h k

@@ -132,59 +132,59 @@ const OUTCOMES: [(&str, Result<(usize, usize), FlattenRefusal>); 17] = [
         Err(FlattenRefusal::OutOfRange(22)),
     ),
     (
-        "DS 1; DF; DS 2; C 1; C 1; DF; DS 3; C 2; C 2; DF; DS 4; C 3; C 3; DF; DS 5; C 4; C 4; DF; DS 6; C \
-     5; C 5; DF; DS 7; C 6; C 6; DF; DS 8; C 7; C 7; DF; DS 9; C 8; C 8; DF; DS 10; C 9; C 9; DF; DS 11; \
-     C 10; C 10; DF; DS 12; C 11; C 11; DF; DS 13; C 12; C 12; DF; DS 14; C 13; C 13; DF; DS 15; C 14; C \
-     14; DF; DS 16; C 15; C 15; DF; C 15; C 15; E",
+        "DS 1; DF; DS 2; C 1; C 1; DF; DS 3; C 2; C 2; DF; DS 4; C 3; C 3; DF; DS 5; C 4; C 4; DF; DS 6; \
+         C 5; C 5; DF; DS 7; C 6; C 6; DF; DS 8; C 7; C 7; DF; DS 9; C 8; C 8; DF; DS 10; C 9; C 9; DF; \
+         DS 11; C 10; C 10; DF; DS 12; C 11; C 11; DF; DS 13; C 12; C 12; DF; DS 14; C 13; C 13; DF; \
+         DS 15; C 14; C 14; DF; DS 16; C 15; C 15; DF; C 15; C 15; E",
         Ok((0, 0)),
     ),
     (
-        "DS 1; DF; DS 2; C 1; C 1; DF; DS 3; C 2; C 2; DF; DS 4; C 3; C 3; DF; DS 5; C 4; C 4; DF; DS 6; C \
-     5; C 5; DF; DS 7; C 6; C 6; DF; DS 8; C 7; C 7; DF; DS 9; C 8; C 8; DF; DS 10; C 9; C 9; DF; DS 11; \
-     C 10; C 10; DF; DS 12; C 11; C 11; DF; DS 13; C 12; C 12; DF; DS 14; C 13; C 13; DF; DS 15; C 14; C \
-     14; DF; DS 16; C 15; C 15; DF; C 16; C 1; E",
+        "DS 1; DF; DS 2; C 1; C 1; DF; DS 3; C 2; C 2; DF; DS 4; C 3; C 3; DF; DS 5; C 4; C 4; DF; DS 6; \
+         C 5; C 5; DF; DS 7; C 6; C 6; DF; DS 8; C 7; C 7; DF; DS 9; C 8; C 8; DF; DS 10; C 9; C 9; DF; \
+         DS 11; C 10; C 10; DF; DS 12; C 11; C 11; DF; DS 13; C 12; C 12; DF; DS 14; C 13; C 13; DF; \
+         DS 15; C 14; C 14; DF; DS 16; C 15; C 15; DF; C 16; C 1; E",
         Ok((0, 0)),
     ),
     (
-        "DS 1; DF; DS 2; C 1; C 1; DF; DS 3; C 2; C 2; DF; DS 4; C 3; C 3; DF; DS 5; C 4; C 4; DF; DS 6; C \
-     5; C 5; DF; DS 7; C 6; C 6; DF; DS 8; C 7; C 7; DF; DS 9; C 8; C 8; DF; DS 10; C 9; C 9; DF; DS 11; \
-     C 10; C 10; DF; DS 12; C 11; C 11; DF; DS 13; C 12; C 12; DF; DS 14; C 13; C 13; DF; DS 15; C 14; C \
-     14; DF; DS 16; C 15; C 15; DF; C 16; C 1; C 1; E",
+        "DS 1; DF; DS 2; C 1; C 1; DF; DS 3; C 2; C 2; DF; DS 4; C 3; C 3; DF; DS 5; C 4; C 4; DF; DS 6; \
+         C 5; C 5; DF; DS 7; C 6; C 6; DF; DS 8; C 7; C 7; DF; DS 9; C 8; C 8; DF; DS 10; C 9; C 9; DF; \
+         DS 11; C 10; C 10; DF; DS 12; C 11; C 11; DF; DS 13; C 12; C 12; DF; DS 14; C 13; C 13; DF; \
+         DS 15; C 14; C 14; DF; DS 16; C 15; C 15; DF; C 16; C 1; C 1; E",
         Err(FlattenRefusal::TooManyCalls),
     ),
     (
-        "DS 1; DF; DS 2; C 1; C 1; DF; DS 3; C 2; C 2; DF; DS 4; C 3; C 3; DF; DS 5; C 4; C 4; DF; DS 6; C \
-     5; C 5; DF; DS 7; C 6; C 6; DF; DS 8; C 7; C 7; DF; DS 9; C 8; C 8; DF; DS 10; C 9; C 9; DF; DS 11; \
-     C 10; C 10; DF; DS 12; C 11; C 11; DF; DS 13; C 12; C 12; DF; DS 14; C 13; C 13; DF; DS 15; C 14; C \
-     14; DF; DS 16; C 15; C 15; DF; C 16; C 16; E",
+        "DS 1; DF; DS 2; C 1; C 1; DF; DS 3; C 2; C 2; DF; DS 4; C 3; C 3; DF; DS 5; C 4; C 4; DF; DS 6; \
+         C 5; C 5; DF; DS 7; C 6; C 6; DF; DS 8; C 7; C 7; DF; DS 9; C 8; C 8; DF; DS 10; C 9; C 9; DF; \
+         DS 11; C 10; C 10; DF; DS 12; C 11; C 11; DF; DS 13; C 12; C 12; DF; DS 14; C 13; C 13; DF; \
+         DS 15; C 14; C 14; DF; DS 16; C 15; C 15; DF; C 16; C 16; E",
         Err(FlattenRefusal::TooManyCalls),
     ),
     (
-        "DS 1; L CMF; B 2 2 1 1; B 2 2 1 1; B 2 2 1 1; B 2 2 1 1; B 2 2 1 1; B 2 2 1 1; B 2 2 1 1; B 2 2 1 \
-     1; DF; DS 2; C 1; C 1; C 1; C 1; C 1; C 1; C 1; C 1; C 1; C 1; C 1; C 1; C 1; C 1; C 1; C 1; DF; DS \
-     3; C 2; C 2; C 2; C 2; C 2; C 2; C 2; C 2; C 2; C 2; C 2; C 2; C 2; C 2; C 2; C 2; DF; C 3; C 3; C \
-     3; C 3; C 3; C 3; C 3; C 3; C 3; C 3; C 3; C 3; C 3; C 3; C 3; C 3; E",
+        "DS 1; L CMF; B 2 2 1 1; B 2 2 1 1; B 2 2 1 1; B 2 2 1 1; B 2 2 1 1; B 2 2 1 1; B 2 2 1 1; \
+         B 2 2 1 1; DF; DS 2; C 1; C 1; C 1; C 1; C 1; C 1; C 1; C 1; C 1; C 1; C 1; C 1; C 1; C 1; C 1; \
+         C 1; DF; DS 3; C 2; C 2; C 2; C 2; C 2; C 2; C 2; C 2; C 2; C 2; C 2; C 2; C 2; C 2; C 2; C 2; \
+         DF; C 3; C 3; C 3; C 3; C 3; C 3; C 3; C 3; C 3; C 3; C 3; C 3; C 3; C 3; C 3; C 3; E",
         Ok((32_768, 0)),
     ),
     (
-        "DS 1; L CMF; B 2 2 1 1; B 2 2 1 1; B 2 2 1 1; B 2 2 1 1; B 2 2 1 1; B 2 2 1 1; B 2 2 1 1; B 2 2 1 \
-     1; DF; DS 2; C 1; C 1; C 1; C 1; C 1; C 1; C 1; C 1; C 1; C 1; C 1; C 1; C 1; C 1; C 1; C 1; DF; DS \
-     3; C 2; C 2; C 2; C 2; C 2; C 2; C 2; C 2; C 2; C 2; C 2; C 2; C 2; C 2; C 2; C 2; DF; C 3; C 3; C \
-     3; C 3; C 3; C 3; C 3; C 3; C 3; C 3; C 3; C 3; C 3; C 3; C 3; C 3; 94 A 0 0; E",
+        "DS 1; L CMF; B 2 2 1 1; B 2 2 1 1; B 2 2 1 1; B 2 2 1 1; B 2 2 1 1; B 2 2 1 1; B 2 2 1 1; \
+         B 2 2 1 1; DF; DS 2; C 1; C 1; C 1; C 1; C 1; C 1; C 1; C 1; C 1; C 1; C 1; C 1; C 1; C 1; C 1; \
+         C 1; DF; DS 3; C 2; C 2; C 2; C 2; C 2; C 2; C 2; C 2; C 2; C 2; C 2; C 2; C 2; C 2; C 2; C 2; \
+         DF; C 3; C 3; C 3; C 3; C 3; C 3; C 3; C 3; C 3; C 3; C 3; C 3; C 3; C 3; C 3; C 3; 94 A 0 0; E",
         Err(FlattenRefusal::TooManyEdges),
     ),
     (
-        "DS 1; L CMF; B 1 1 0 0; DF; DS 2; C 1; C 1 T 2 2; DF; DS 3; C 2; C 2 T 4 4; DF; DS 4; C 3; C 3 T 8 \
-     8; DF; DS 5; C 4; C 4 T 16 16; DF; DS 6; C 5; C 5 T 32 32; DF; DS 7; C 6; C 6 T 64 64; DF; DS 8; C \
-     7; C 7 T 128 128; DF; DS 9; C 8; C 8 T 256 256; DF; DS 10; C 9; C 9 T 512 512; DF; DS 11; C 10; C \
-     10 T 1024 1024; DF; C 11; E",
+        "DS 1; L CMF; B 1 1 0 0; DF; DS 2; C 1; C 1 T 2 2; DF; DS 3; C 2; C 2 T 4 4; DF; DS 4; C 3; \
+         C 3 T 8 8; DF; DS 5; C 4; C 4 T 16 16; DF; DS 6; C 5; C 5 T 32 32; DF; DS 7; C 6; C 6 T 64 64; \
+         DF; DS 8; C 7; C 7 T 128 128; DF; DS 9; C 8; C 8 T 256 256; DF; DS 10; C 9; C 9 T 512 512; DF; \
+         DS 11; C 10; C 10 T 1024 1024; DF; C 11; E",
         Ok((1_024, 0)),
     ),
     (
-        "DS 1; L CMF; B 1 1 0 0; DF; DS 2; C 1; C 1 T 2 2; DF; DS 3; C 2; C 2 T 4 4; DF; DS 4; C 3; C 3 T 8 \
-     8; DF; DS 5; C 4; C 4 T 16 16; DF; DS 6; C 5; C 5 T 32 32; DF; DS 7; C 6; C 6 T 64 64; DF; DS 8; C \
-     7; C 7 T 128 128; DF; DS 9; C 8; C 8 T 256 256; DF; DS 10; C 9; C 9 T 512 512; DF; DS 11; C 10; C \
-     10 T 1024 1024; DF; C 11; C 1 T 0 5000; E",
+        "DS 1; L CMF; B 1 1 0 0; DF; DS 2; C 1; C 1 T 2 2; DF; DS 3; C 2; C 2 T 4 4; DF; DS 4; C 3; \
+         C 3 T 8 8; DF; DS 5; C 4; C 4 T 16 16; DF; DS 6; C 5; C 5 T 32 32; DF; DS 7; C 6; C 6 T 64 64; \
+         DF; DS 8; C 7; C 7 T 128 128; DF; DS 9; C 8; C 8 T 256 256; DF; DS 10; C 9; C 9 T 512 512; DF; \
+         DS 11; C 10; C 10 T 1024 1024; DF; C 11; C 1 T 0 5000; E",
         Err(FlattenRefusal::TooFine),
     ),
 ];

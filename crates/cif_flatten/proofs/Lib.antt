@@ -13,4 +13,5 @@ pub mod Wires
 pub mod Walked
 pub mod Judged
 pub mod OneAnswer
+pub mod SameFiles
 pub mod Worked

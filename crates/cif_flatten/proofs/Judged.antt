@@ -1,10 +1,9 @@
 -- Why a file is not unfolded, and when it is.
-use Rattle.std.proofs.Common.{◌≡◌, ◌⊎◌, inl, inr, ℕ, ◌+◌, ◌*◌, ◌^◌, ◌<◌, ◌≤◌, length, map, List, [], ◌∷◌, ◌++◌, refl, sym, ap, ◌∙◌, subst, arith, Bool, true, false, Result, Ok, Err}
+use Rattle.std.proofs.Common.{◌≡◌, ◌⊎◌, inr, ℕ, ◌^◌, ◌<◌, ◌≤◌, map, List, [], ◌∷◌, ◌++◌, refl, sym, ap, ◌∙◌, subst, arith, Bool, true, false, Result, Err}
 use Rattle.std.specs.Prelude.{Option, Some, None, IfNone, IsSome, ◌↔◌, IsTrue, flat_map}
 use Rattle.std.specs.List.{All, Contains}
 use Rattle.std.proofs.lemmas.List.Elements.{All-append, All-map, All-weaker, All-cons, All-nil, All-head, All-tail, All-contains, All-contains_itself}
 use Rattle.std.proofs.lemmas.List.Folds.{flat_map-map}
-use Rattle.plane_geom.specs.declared.shapes.Point.{Point}
 use Rattle.plane_geom.specs.Bounds.{IsPointWithin}
 use Rattle.plane_geom.specs.Covering.{Figure, block, polygon, wire, figure_of, moved_figure, rect_round}
 use Rattle.plane_geom.specs.Placement.{Step, moved}
@@ -19,7 +18,7 @@ use Rattle.cif_flatten.specs.declared.refusal.FlattenRefusal.TheVariants.{Undefi
 use Rattle.cif_flatten.specs.declared.sizes.Size.{Size}
 use Rattle.cif_flatten.specs.declared.unfolding.Command.{Command}
 use Rattle.cif_flatten.specs.Flat.{Lists}
-use Rattle.cif_flatten.specs.Unfolding.{Placed, Drawn, Marked, drawn_by, marked_by, drawn, marked, Unfolds, IsUnfolding, in_place, calls_among, weight_among, capped}
+use Rattle.cif_flatten.specs.Unfolding.{Placed, Drawn, Marked, drawn_by, marked_by, drawn, marked, IsUnfolding, in_place, calls_among, weight_among}
 use Rattle.cif_flatten.specs.FileSize.{IsFileSize}
 use Rattle.cif_flatten.specs.Faults.{undefined_calls, IsFirst, IsFirstIfAny, IsNested, Recurses, HasManyCalls, HasMuchWeight, most_calls, most_weight, most_fineness, corners, Reaching, reaching, IsInRange, IsOutOfRange, IsTooFine, all_corners, fineness}
 use Rattle.cif_flatten.specs.Flattening.{HasFault, row, IsFirstFault, IsSound, drawn_of, marked_of, IsFlattened}

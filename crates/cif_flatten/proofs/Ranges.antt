@@ -1,7 +1,7 @@
 -- How far placed shapes and labels reach.
-use Rattle.std.proofs.Common.{◌≡◌, ◌⊎◌, inl, inr, ℕ, zero, suc, add-one, get_or, ◌+◌, ◌-◌, ◌*◌, ◌^◌, ◌<◌, ◌≤◌, length, map, take, Bool, true, false, cond, List, [], ◌∷◌, ◌++◌, refl, sym, ap, ◌∙◌, subst, arith, append_assoc}
-use Rattle.std.specs.Prelude.{Option, Some, None, ℤ, pos, neg_ℤ, ◌+ℤ◌, ◌-ℤ◌, ◌≤ℤ◌, ◌↔◌, flat_map, min, nat_lt, IsTrue}
-use Rattle.std.specs.List.{All, Contains}
+use Rattle.std.proofs.Common.{◌≡◌, ◌⊎◌, inl, inr, ℕ, add-one, get_or, ◌+◌, ◌-◌, ◌*◌, ◌^◌, ◌<◌, ◌≤◌, length, map, take, Bool, true, false, List, [], ◌∷◌, ◌++◌, refl, sym, ap, ◌∙◌, subst, arith}
+use Rattle.std.specs.Prelude.{Option, Some, None, ℤ, pos, ◌+ℤ◌, ◌-ℤ◌, ◌≤ℤ◌, ◌↔◌, flat_map, min, nat_lt, IsTrue}
+use Rattle.std.specs.List.{All}
 use Rattle.std.specs.Int.{int_min, int_max}
 use Rattle.std.proofs.Math.Seq.{take-suc}
 use Rattle.std.proofs.lemmas.Int.{ints, clamps}
@@ -11,11 +11,11 @@ use Rattle.std.proofs.lemmas.List.Elements.{All-append, All-map, All-weaker, All
 use Rattle.plane_geom.specs.declared.shapes.Point.{Point}
 use Rattle.plane_geom.specs.declared.shapes.Rect.{Rect}
 use Rattle.plane_geom.specs.declared.shapes.Shape.{Shape}
-use Rattle.plane_geom.specs.declared.shapes.Shape.TheVariants.{Block, Polygon, Wire}
+use Rattle.plane_geom.specs.declared.shapes.Shape.TheVariants.{Block}
 use Rattle.plane_geom.specs.declared.places.Place.{Place}
-use Rattle.plane_geom.specs.Bounds.{IsWithin, IsPointWithin, IsRectWithin}
+use Rattle.plane_geom.specs.Bounds.{IsWithin, IsPointWithin}
 use Rattle.plane_geom.specs.Covering.{Figure, IsWellFormed, block, polygon, wire, figure_of, moved_figure, rect_round, segments, edges_from, widened, IsFigureWithin}
-use Rattle.plane_geom.specs.Placement.{Step, moved, steps_of, placed, IsShiftWithin}
+use Rattle.plane_geom.specs.Placement.{moved, steps_of, placed, IsShiftWithin}
 use Rattle.cif_grammar.specs.Words.{limit}
 use Rattle.cif_reader.specs.declared.file.What.{What}
 use Rattle.cif_reader.specs.declared.file.What.TheVariants.{Draw, Call, Mark}
@@ -24,7 +24,7 @@ use Rattle.cif_flatten.specs.declared.unfolding.Command.{Command}
 use Rattle.cif_flatten.specs.declared.flat.Draw.{Draw as Draw'}
 use Rattle.cif_flatten.specs.Unfolding.{Placed}
 use Rattle.cif_flatten.specs.Faults.{rect_corners, corners, most_fineness, count_distinct, fineness}
-use Rattle.cif_flatten.specs.Unrolling.{placed_of, reach_by, IsIn, IsOutAt, IsLeastOut, lesser_of, IsPairIn, IsHalf, IsWideAt, IsWideIn, IsDrawable, corners_of}
+use Rattle.cif_flatten.specs.Unrolling.{placed_of, reach_by, IsIn, IsOutAt, IsLeastOut, lesser_of, IsPairIn, IsWideAt, IsWideIn, IsDrawable, corners_of}
 
 -- ---- what a file keeps, with room
 

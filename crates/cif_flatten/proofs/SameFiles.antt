@@ -1,10 +1,9 @@
 -- Files that hold the same are flattened alike.
 use Rattle.std.proofs.Common.{◌≡◌, ℕ, ◌+◌, ◌<◌, ◌≤◌, map, Bool, true, false, cond, ◌||◌, List, [], ◌∷◌, ◌++◌, refl, sym, ap, ◌∙◌, subst}
-use Rattle.std.specs.Prelude.{◌==◌, Option, Some, None, find, flat_map, sum_by}
+use Rattle.std.specs.Prelude.{◌==◌, Option, Some, find, flat_map}
 use Rattle.std.specs.List.{list_any, All, Contains}
 use Rattle.std.proofs.lemmas.List.Sums.{sum_by-cons}
-use Rattle.plane_geom.specs.declared.places.Place.{Place}
-use Rattle.plane_geom.specs.Covering.{figure_of, moved_figure}
+use Rattle.plane_geom.specs.Covering.{moved_figure}
 use Rattle.plane_geom.specs.Placement.{Step, moved, steps_of}
 use Rattle.cif_reader.specs.declared.file.Item.{Item}
 use Rattle.cif_reader.specs.declared.file.Symbol.{Symbol}
@@ -12,13 +11,12 @@ use Rattle.cif_reader.specs.declared.file.What.{What}
 use Rattle.cif_reader.specs.declared.file.What.TheVariants.{Draw, Call, Mark}
 use Rattle.cif_reader.specs.File.{Contents, has_number}
 use Rattle.cif_reader.specs.Same.{IsSame, AreSame, AreSameSymbols, IsSameFile}
-use Rattle.cif_flatten.specs.declared.calls.UndefinedCall.{UndefinedCall}
 use Rattle.cif_flatten.specs.declared.refusal.FlattenRefusal.{FlattenRefusal}
 use Rattle.cif_flatten.specs.declared.refusal.FlattenRefusal.TheVariants.{Undefined, Recursive, TooManyCalls, TooManyEdges, OutOfRange, TooFine, NoMemory}
 use Rattle.cif_flatten.specs.Flat.{Lists}
 use Rattle.cif_flatten.specs.Unfolding.{Placed, in_place, items_in, items_of, opened, opened_by, Unfolds, IsUnfolding, call_count, figure_weight, weight, calls_among, weight_among, Drawn, Marked, drawn_by, marked_by, drawn, marked}
-use Rattle.cif_flatten.specs.Faults.{undefined_by, undefined_among, undefined_in_symbols, undefined_calls, IsFirst, IsUndefined, is_call_of, has_call, calls, CallsAlong, CallsThrough, IsRecursive, most_calls, most_weight, most_fineness, HasManyCalls, HasMuchWeight, corners, Reaching, reaching, IsInRange, IsOutOfRange, IsTooFine, fineness}
-use Rattle.cif_flatten.specs.Flattening.{HasFault, IsSound, IsFlattened}
+use Rattle.cif_flatten.specs.Faults.{undefined_by, undefined_among, undefined_in_symbols, undefined_calls, IsFirst, is_call_of, has_call, calls, CallsAlong, CallsThrough, most_calls, most_weight, most_fineness, corners, Reaching, reaching, IsInRange, fineness}
+use Rattle.cif_flatten.specs.Flattening.{HasFault, IsFlattened}
 
 -- ---- the other way round
 

@@ -1,5 +1,5 @@
 -- What placed shapes keep.
-use Rattle.std.proofs.Common.{◌≡◌, ◌⊎◌, inl, inr, ℕ, ◌+◌, ◌^◌, ◌<◌, length, map, Bool, true, false, ◌||◌, ◌&&◌, List, [], ◌∷◌, ◌++◌, refl, sym, ap, ◌∙◌, subst, arith}
+use Rattle.std.proofs.Common.{◌≡◌, ◌⊎◌, inl, inr, ◌^◌, ◌<◌, map, Bool, true, false, ◌||◌, ◌&&◌, List, [], ◌∷◌, ◌++◌, refl, sym, ap, ◌∙◌, subst, arith}
 use Rattle.std.specs.Prelude.{ℤ, pos, neg_ℤ, ◌+ℤ◌, ◌-ℤ◌, ◌≤ℤ◌}
 use Rattle.std.specs.List.{All, list_all}
 use Rattle.std.specs.Int.{int_min, int_max}
@@ -7,13 +7,12 @@ use Rattle.std.specs.Ordering.{int_eq}
 use Rattle.std.proofs.lemmas.Int.{ints, clamps}
 use Rattle.std.proofs.lemmas.Bool.Decides.{nat_tests}
 use Rattle.std.proofs.lemmas.List.{length-map, map-append}
-use Rattle.std.proofs.lemmas.List.Elements.{All-weaker, All-head, All-nil}
+use Rattle.std.proofs.lemmas.List.Elements.{All-weaker, All-head}
 use Rattle.plane_geom.specs.declared.shapes.Point.{Point}
 use Rattle.plane_geom.specs.declared.shapes.Rect.{Rect}
 use Rattle.plane_geom.specs.declared.shapes.Shape.{Shape}
-use Rattle.plane_geom.specs.declared.places.Place.{Place}
 use Rattle.plane_geom.specs.Bounds.{IsWithin, IsPointWithin, IsRectWithin}
-use Rattle.plane_geom.specs.Covering.{Figure, block, polygon, wire, figure_of, moved_figure, rect_round, segments, edges_from, outline, is_along, widened, IsRect, IsOutline, IsCentreLine, IsWellFormed, IsFigureWithin, IsRectIn, HoldsAround, IsRound, IsReach}
+use Rattle.plane_geom.specs.Covering.{Figure, block, polygon, wire, figure_of, moved_figure, rect_round, segments, edges_from, outline, is_along, IsWellFormed, IsFigureWithin, IsRectIn, HoldsAround, IsRound, IsReach}
 use Rattle.plane_geom.specs.Placement.{Step, shift, negate_x, negate_y, exchange, moved, moved_once}
 use Rattle.cif_flatten.specs.Faults.{rect_corners, corners}
 use Rattle.cif_flatten.specs.Flat.{IsShapeWithin}

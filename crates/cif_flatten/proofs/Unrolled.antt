@@ -1,13 +1,9 @@
 -- The unfolding of calls with a stack of commands.
-use Rattle.std.proofs.Common.{◌≡◌, ◌⊎◌, inl, inr, ℕ, zero, suc, add-one, get_or, ◌+◌, ◌<◌, ◌≤◌, length, map, drop, Bool, true, false, cond, List, [], ◌∷◌, ◌++◌, refl, sym, ap, ◌∙◌, subst, arith, append_assoc, length-append}
-use Rattle.std.specs.Prelude.{Option, Some, None, find, sum_by, ℤ, pos, ◌+ℤ◌}
-use Rattle.std.specs.List.{All, AllByRecursion}
+use Rattle.std.proofs.Common.{◌≡◌, ℕ, zero, suc, add-one, get_or, ◌+◌, ◌≤◌, length, drop, List, [], ◌∷◌, ◌++◌, refl, sym, ap, ◌∙◌, subst, arith, append_assoc}
 use Rattle.std.proofs.Math.Seq.{drop-cons}
-use Rattle.std.proofs.lemmas.Int.{ints}
 use Rattle.std.proofs.lemmas.List.{append-nil}
 use Rattle.std.proofs.lemmas.List.Sums.{sum_by-cons}
 use Rattle.plane_geom.specs.declared.shapes.Point.{Point}
-use Rattle.plane_geom.specs.declared.places.Place.{Place}
 use Rattle.plane_geom.specs.Placement.{Step, moved, steps_of}
 use Rattle.plane_geom.proofs.Turning.{moved-append}
 use Rattle.cif_reader.specs.declared.file.Item.{Item}

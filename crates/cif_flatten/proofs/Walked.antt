@@ -1,13 +1,12 @@
 -- The steps of the unfolding, and what they keep.
-use Rattle.std.proofs.Common.{◌≡◌, ℕ, zero, suc, get_or, ◌+◌, ◌-◌, ◌*◌, ◌^◌, ◌<◌, ◌≤◌, length, map, Bool, true, false, cond, List, [], ◌∷◌, ◌++◌, refl, sym, ap, ◌∙◌, subst, arith, Bor, Fits, w32}
-use Rattle.std.specs.Prelude.{◌==◌, Option, Some, None, Result, Ok, Err, OnOk, find, sum_by, min, ℤ, pos, ◌+ℤ◌, option_copied}
+use Rattle.std.proofs.Common.{◌≡◌, ℕ, get_or, ◌+◌, ◌*◌, ◌^◌, ◌<◌, ◌≤◌, length, map, Bool, true, false, cond, List, [], ◌∷◌, ◌++◌, refl, sym, ap, ◌∙◌, subst, arith, Bor, Fits, w32}
+use Rattle.std.specs.Prelude.{◌==◌, Option, Some, None, Result, Ok, Err, OnOk, find, ℤ, pos, ◌+ℤ◌, option_copied}
 use Rattle.std.specs.List.{All, AllByRecursion}
 use Rattle.std.proofs.lemmas.Int.{ints}
 use Rattle.std.proofs.lemmas.List.{append-nil, map-append}
-use Rattle.std.proofs.lemmas.List.Elements.{All-from_recursion, All-weaker, All-push, All-pop, All-nil, All-head, All-tail, All-append}
+use Rattle.std.proofs.lemmas.List.Elements.{All-from_recursion, All-weaker, All-push, All-pop, All-nil}
 use Rattle.std.proofs.lemmas.List.Sums.{sum_by-cons}
 use Rattle.plane_geom.specs.declared.shapes.Point.{Point}
-use Rattle.plane_geom.specs.declared.shapes.Shape.{Shape}
 use Rattle.plane_geom.specs.declared.places.Place.{Place}
 use Rattle.plane_geom.specs.Covering.{Figure, block, polygon, wire, figure_of, IsWellFormed}
 use Rattle.plane_geom.specs.Placement.{Step, moved, placed, steps_of, IsShiftWithin}
@@ -17,13 +16,13 @@ use Rattle.cif_reader.specs.declared.file.Item.{Item}
 use Rattle.cif_reader.specs.declared.file.Symbol.{Symbol}
 use Rattle.cif_reader.specs.declared.file.What.{What}
 use Rattle.cif_reader.specs.declared.file.What.TheVariants.{Draw, Call, Mark}
-use Rattle.cif_reader.specs.File.{Contents, has_number, IsKept, IsDrawn, AreKept, AreAllKept, IsFile}
+use Rattle.cif_reader.specs.File.{Contents, has_number, IsKept, AreKept, AreAllKept, IsFile}
 use Rattle.cif_flatten.specs.declared.sizes.Size.{Size}
 use Rattle.cif_flatten.specs.declared.unfolding.Command.{Command}
-use Rattle.cif_flatten.specs.Unfolding.{Placed, in_place, items_in, items_of, opened, opened_by, Unfolds, IsUnfolding, call_count, figure_weight, weight, calls_among, weight_among, capped}
+use Rattle.cif_flatten.specs.Unfolding.{Placed, in_place, items_in, items_of, opened, opened_by, Unfolds, call_count, figure_weight, weight, calls_among, weight_among, capped}
 use Rattle.cif_flatten.specs.Faults.{most_calls, most_weight}
 use Rattle.cif_flatten.specs.FileSize.{IsFileSize}
-use Rattle.cif_flatten.specs.Unrolling.{placed_of, waiting, AreAlike, IsUnrolled, Unrolling, Walking, IsNear, IsShallow, AreShallow, IsPlaceable, count_within}
+use Rattle.cif_flatten.specs.Unrolling.{placed_of, waiting, AreAlike, IsUnrolled, Walking, IsNear, IsShallow, AreShallow, IsPlaceable, count_within}
 use Rattle.cif_flatten.proofs.Ranges.{callable}
 use Rattle.cif_flatten.proofs.Unrolled.{waiting_push, alike_from, alike_in_place, alike_append, alike_same, Likewise, likewise, calls_alike, length_alike, Unrolled, unroll, count_is, all_unrolled}
 

@@ -1,4 +1,4 @@
-use Rattle.std.proofs.Common.{arith, refl, ◌≡◌, ℤ}
+use Rattle.std.proofs.Common.{arith, refl}
 use Rattle.std.proofs.lemmas.Int.{ints}
 use Rattle.cif_flatten.proofs.Ranges.{wide_more, wide_all}
 use Rattle.cif_flatten.proofs.placing.is_path_in_range.Goals as goal

@@ -5,4 +5,13 @@ pub mod Sizing
 pub mod Nesting
 pub mod Exploring
 pub mod Circling
+pub mod Distinct
+pub mod Unrolled
+pub mod Ranges
+pub mod Shapes
+pub mod Wires
+pub mod Walked
+pub mod Judged
+pub mod OneAnswer
+pub mod SameFiles
 pub mod Worked

@@ -4,3 +4,5 @@ pub mod Faults
 pub mod Sizes
 pub mod FileSize
 pub mod Reaching
+pub mod Flattening
+pub mod Unrolling

@@ -1,0 +1,20 @@
+//! Laws of the unfolding.
+
+ghost use Rattle.std.specs.Prelude.{◌≡◌, List, map};
+ghost use Rattle.cif_reader.specs.File.{Contents};
+ghost use Rattle.cif_reader.specs.Same.{IsSameFile};
+ghost use Rattle.cif_flatten.specs.declared.refusal.FlattenRefusal.{FlattenRefusal};
+ghost use Rattle.cif_flatten.specs.Flat.{Lists};
+ghost use Rattle.cif_flatten.specs.Unfolding.{Placed, IsUnfolding};
+ghost use Rattle.cif_flatten.specs.Flattening.{IsFirstFault, IsFlattened, AreCallsApart, drawn_of, marked_of};
+
+/// A file unfolds in one way, to one list of placed shapes and one of placed labels. It is flattened or refused and never
+/// both, and it is refused for one reason, where calls of undefined symbols have positions of their own. Files that hold
+/// the same are flattened to the same lists.
+pub fn one_flattening()
+    ensures one_unfolding { (file : Contents) (p q : List Placed) → IsUnfolding file p → IsUnfolding file q → p ≡ q }
+    ensures one_layout { (file : Contents) (f g : Lists) → IsFlattened file f → IsFlattened file g → (map drawn_of f.draws ≡ map drawn_of g.draws) × (map marked_of f.marks ≡ map marked_of g.marks) }
+    ensures never_both { (file : Contents) (lists : Lists) (refusal : FlattenRefusal) → IsFlattened file lists → IsFirstFault file refusal → ⊥ }
+    ensures one_fault { (file : Contents) (r s : FlattenRefusal) → AreCallsApart file → IsFirstFault file r → IsFirstFault file s → r ≡ s }
+    ensures same_file { (f g : Contents) (lists : Lists) → IsSameFile f g → IsFlattened f lists → IsFlattened g lists }
+{}

@@ -10,6 +10,12 @@
 //! nets, transistors and the counts of defects stand on it.
 #![tactic(auto)]
 
+mod bands;
+mod cuts;
 mod node;
+mod refusal;
+mod ties;
+mod wiring;
 
 pub use node::Node;
+pub use refusal::TraceRefusal;

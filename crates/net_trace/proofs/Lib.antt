@@ -9,3 +9,5 @@ pub mod Edging
 pub mod Lists
 pub mod Values
 pub mod CutLists
+pub mod TracedNets
+pub mod Filling

@@ -128,6 +128,7 @@ pub record IsTraced (nets : Nets) (label : List ℕ) (roots : List Node) : Type 
 pub record AreParts (vertices : List Vertex) (label : List ℕ) (count wires n : ℕ) (regions : List (List Strip)) : Type 0 where
   pub each : length regions ≡ count * wires
   pub banded : AreAllBanded regions
+  pub of : (e : ℕ) (r : List Strip) (k : ℕ) (s : Strip) → slice_get regions e ≡ Some r → slice_get r k ≡ Some s → (i : ℕ) × (v : Vertex) × (slice_get vertices i ≡ Some v) × (v.strip ≡ s)
   pub inside : (net wire : ℕ) (r : List Strip) (k : ℕ) (s : Strip) → net < count → wire < wires → slice_get regions (net * wires + wire) ≡ Some r → slice_get r k ≡ Some s
       → (i : ℕ) × (i < n) × (slice_get vertices i ≡ Some (record { wire = wire; strip = s })) × (slice_index label i ≡ net)
   pub whole : (i : ℕ) (v : Vertex) (r : List Strip) → i < n → slice_get vertices i ≡ Some v → slice_get regions (slice_index label i * wires + v.wire) ≡ Some r
@@ -175,3 +176,10 @@ pub record AreTied (wires : List (List Strip)) (cut : Cut) (old new : List (ℕ 
 -- the cuts with these regions and lists of wires
 abbrev pub cuts_with : List (List Strip) → List (List ℕ) → List Cut
 cuts_with regions lists = map (λ p. record { region = p.0; wires = p.1 }) (zip regions lists)
+
+-- ---- regions that are filled
+
+-- So many regions, each with no cell.
+pub record AreEmpty (count : ℕ) (regions : List (List Strip)) : Type 0 where
+  pub each : length regions ≡ count
+  pub none : (k : ℕ) (r : List Strip) → slice_get regions k ≡ Some r → r ≡ []

@@ -13,9 +13,12 @@
 mod bands;
 mod cuts;
 mod node;
+mod parts;
 mod refusal;
 mod ties;
+mod traced;
 mod wiring;
 
 pub use node::Node;
 pub use refusal::TraceRefusal;
+pub use traced::Traced;

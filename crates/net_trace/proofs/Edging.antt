@@ -32,7 +32,6 @@ pub record AreEdgesTo (wires : List (List Strip)) (cuts : List Cut) (n : ℕ) (p
 
 -- ---- strips of which the one lies on the other
 
-
 module _ (s t : Strip) (strip_s : IsStrip s) (strip_t : IsStrip t) (level : s.y1 ≡ t.y0) (meeting : is_meeting s.x0 s.x1 t.x0 t.x1 ≡ true) where
   column : (x : ℤ) × (is_in_strip s x (s.y1 -ℤ pos 1) ≡ true) × (is_in_strip t x t.y0 ≡ true) × (is_beside x (s.y1 -ℤ pos 1) x t.y0 ≡ true)
   column = by_lt_z s.x0 t.x0
@@ -132,23 +131,25 @@ module _ (wires : List (List Strip)) (cuts : List Cut) (ordered : AreOrdered (ve
         let at_a : IsVertexAt (vertices_of 0 wires) a e.0 = record { vertex = u; at = h.first; has = and_from (u.wire == u.wire) (is_in_strip u.strip x (u.strip.y1 -ℤ pos 1)) (eq-eqb u.wire u.wire refl) in_u } in
         let at_b : IsVertexAt (vertices_of 0 wires) b e.1 = record { vertex = v; at = h.second; has = and_from (v.wire == v.wire) (is_in_strip v.strip x v.strip.y0) (eq-eqb v.wire v.wire refl) in_v } in
         let step : is_along_wire wires a b ≡ true = and_from (is_node nets a && is_node nets b) (is_along a b) (and_from (is_node nets a) (is_node nets b) (node_of nets a e.0 at_a) (node_of nets b e.1 at_b))
-            (and_from (u.wire == v.wire) (is_beside x (u.strip.y1 -ℤ pos 1) x v.strip.y0) wire beside) in
+        (and_from (u.wire == v.wire) (is_beside x (u.strip.y1 -ℤ pos 1) x v.strip.y0) wire beside) in
         linked_trans (touches nets) (corner u) a (corner v) (corner_linked nets ordered a e.0 at_a)
         (linked_trans (touches nets) a b (corner v) (linked_touch (touches nets) a b (along_touches nets ordered a b step)) (linked_sym (touches nets) (corner v) b (corner_linked nets ordered b e.1 at_b)))
 
   -- strips of touching cells of one wire have one value where the pairs of a band do
   pub bands_along : (pairs : List (ℕ × ℕ)) → AreBands (vertices_of 0 wires) pairs → (value : ℕ → ℕ) → AreShared pairs value → IsKept (is_along_wire wires) (vertices_of 0 wires) value
-  bands_along pairs h value shared = record { kept = λ a b i j at_a at_b is.
-      let (nodes, along) = and_parts (is_node nets a && is_node nets b) (is_along a b) is in
-      let (wire, beside) = and_parts (a.wire == b.wire) (is_beside a.x a.y b.x b.y) along in
-      let same = eqb-true a.wire b.wire wire in
-      elim (cases_order i j) [
-        | inl equal ↦ ap value equal
-        | inr (inl less) ↦ pair_shared pairs value i j shared (h.whole i j at_a.vertex at_b.vertex at_a.at at_b.at
-            (behind_below at_a.vertex at_b.vertex a b (ordered.behind i j at_a.vertex at_b.vertex less at_a.at at_b.at) at_a.has at_b.has same beside))
-        | inr (inr more) ↦ sym (pair_shared pairs value j i shared (h.whole j i at_b.vertex at_a.vertex at_b.at at_a.at
-            (behind_below at_b.vertex at_a.vertex b a (ordered.behind j i at_b.vertex at_a.vertex more at_b.at at_a.at) at_b.has at_a.has (sym same) (beside_back a.x a.y b.x b.y beside))))
-      ] }
+  bands_along pairs h value shared = record {
+    kept = λ a b i j at_a at_b is.
+        let (nodes, along) = and_parts (is_node nets a && is_node nets b) (is_along a b) is in
+        let (wire, beside) = and_parts (a.wire == b.wire) (is_beside a.x a.y b.x b.y) along in
+        let same = eqb-true a.wire b.wire wire in
+        elim (cases_order i j) [
+          | inl equal ↦ ap value equal
+          | inr (inl less) ↦ pair_shared pairs value i j shared (h.whole i j at_a.vertex at_b.vertex at_a.at at_b.at
+              (behind_below at_a.vertex at_b.vertex a b (ordered.behind i j at_a.vertex at_b.vertex less at_a.at at_b.at) at_a.has at_b.has same beside))
+          | inr (inr more) ↦ sym (pair_shared pairs value j i shared (h.whole j i at_b.vertex at_a.vertex at_b.at at_a.at
+              (behind_below at_b.vertex at_a.vertex b a (ordered.behind j i at_b.vertex at_a.vertex more at_b.at at_a.at) at_b.has at_a.has (sym same) (beside_back a.x a.y b.x b.y beside))))
+        ];
+  }
 
   pub edges_start : (pairs : List (ℕ × ℕ)) → AreBands (vertices_of 0 wires) pairs → AreEdgesTo wires cuts 0 pairs
   edges_start pairs h = record {
@@ -165,11 +166,11 @@ module _ (wires : List (List Strip)) (cuts : List Cut) (ordered : AreOrdered (ve
       let a : Node = node_at h.from t.x t.y in
       let b : Node = node_at h.to t.x t.y in
       let cut : is_cut_at a b c ≡ true = and_from (is_listed c.wires h.from && is_listed c.wires h.to) (is_in c.region t.x t.y)
-          (and_from (is_listed c.wires h.from) (is_listed c.wires h.to) h.from_listed h.to_listed) t.through in
+      (and_from (is_listed c.wires h.from) (is_listed c.wires h.to) h.from_listed h.to_listed) t.through in
       let any : list_any (is_cut_at a b) cuts ≡ true = list_any-from_Any (is_cut_at a b) cuts (n, c, slice_get_within cuts n c at, get_or_from_slice_get cuts n c c at, cut) in
       let through : is_through cuts a b ≡ true = and_from (int_eq t.x t.x && int_eq t.y t.y) (list_any (is_cut_at a b) cuts) (same_cell t.x t.y) any in
       let step : touches nets a b ≡ true = and_from (is_node nets a && is_node nets b) (is_along a b || is_through cuts a b)
-          (and_from (is_node nets a) (is_node nets b) (node_of nets a e.0 t.lower) (node_of nets b e.1 t.upper)) (or_second (is_along a b) (is_through cuts a b) through) in
+      (and_from (is_node nets a) (is_node nets b) (node_of nets a e.0 t.lower) (node_of nets b e.1 t.upper)) (or_second (is_along a b) (is_through cuts a b) through) in
       record {
         from = t.lower.vertex;
         to = t.upper.vertex;
@@ -201,12 +202,14 @@ module _ (wires : List (List Strip)) (cuts : List Cut) (ordered : AreOrdered (ve
   pub edges_done : (n : ℕ) (pairs : List (ℕ × ℕ)) → length cuts ≤ n → AreEdgesTo wires cuts n pairs → AreEdges nets (vertices_of 0 wires) pairs
   edges_done n pairs le h = record {
     sound = h.sound;
-    whole = λ value shared. record { kept = λ a b i j at_a at_b is.
-        let (nodes, near) = and_parts (is_node nets a && is_node nets b) (is_along a b || is_through cuts a b) is in
-        elim (or_either (is_along a b) (is_through cuts a b) near) [
-          | inl along ↦ (h.along value shared).kept a b i j at_a at_b (and_from (is_node nets a && is_node nets b) (is_along a b) nodes along)
-          | inr through ↦ by_cut value shared a b i j at_a at_b through
-        ] };
+    whole = λ value shared. record {
+      kept = λ a b i j at_a at_b is.
+          let (nodes, near) = and_parts (is_node nets a && is_node nets b) (is_along a b || is_through cuts a b) is in
+          elim (or_either (is_along a b) (is_through cuts a b) near) [
+            | inl along ↦ (h.along value shared).kept a b i j at_a at_b (and_from (is_node nets a && is_node nets b) (is_along a b) nodes along)
+            | inr through ↦ by_cut value shared a b i j at_a at_b through
+          ];
+    };
   } where
     one_cell : (x y i j : ℤ) → (int_eq x i && int_eq y j) ≡ true → (i ≡ x) × (j ≡ y)
     one_cell x y i j h = let (p, q) = and_parts (int_eq x i) (int_eq y j) h in (grind (arith, ints, p), grind (arith, ints, q))

@@ -69,10 +69,12 @@ module _ (vertices : List Vertex) (label : List ℕ) (count wires n : ℕ) (regi
     pub parts_more : AreParts vertices label count wires (n + 1) (slice_set regions (slice_index label n * wires + v.wire) (r ++ v.strip ∷ []))
     parts_more = record {
       each = length-set regions (slice_index label n * wires + v.wire) (r ++ v.strip ∷ []) ∙ h.each;
-      banded = record { each = λ w q at. elim (get_set regions (slice_index label n * wires + v.wire) w (r ++ v.strip ∷ []) q at) [
-        | inl here ↦ subst Banded (sym here.1) (more_banded r at_r)
-        | inr other ↦ h.banded.each w q other.1
-      ] };
+      banded = record {
+        each = λ w q at. elim (get_set regions (slice_index label n * wires + v.wire) w (r ++ v.strip ∷ []) q at) [
+          | inl here ↦ subst Banded (sym here.1) (more_banded r at_r)
+          | inr other ↦ h.banded.each w q other.1
+        ];
+      };
       of = λ e q k s at at_k. elim (get_set regions (slice_index label n * wires + v.wire) e (r ++ v.strip ∷ []) q at) [
         | inl here ↦ elim (get_append r (v.strip ∷ []) k s (ap (λ (l : List Strip). slice_get l k) (sym here.1) ∙ at_k)) [
           | inl old ↦ h.of (slice_index label n * wires + v.wire) r k s at_r old.1
@@ -110,12 +112,16 @@ module _ (vertices : List Vertex) (label : List ℕ) (count wires n : ℕ) (regi
 
 -- No coordinate of the regions is further from 0 than those of the wires.
 pub parts_within : (bound : ℕ) (wires : List (List Strip)) (label : List ℕ) (count each n : ℕ) (regions : List (List Strip)) → AreParts (vertices_of 0 wires) label count each n regions → AreRegionsWithin bound wires → AreRegionsWithin bound regions
-parts_within bound wires label count each n regions h within = record { each = λ e r lt. record { each = λ k s k_in.
-    let (i, v, at_i, is) = h.of e (get_or regions e r) k (get_or (get_or regions e r) k s) (slice_get-get_or regions e r lt) (slice_get-get_or (get_or regions e r) k s k_in) in
-    let (w, q, j, same, at_w, at_j) = of_wire 0 wires i v at_i in
-    let all = within.each w q (slice_get_within wires w q at_w) in
-    let here : AreStripsWithin bound q = subst (λ (l : List Strip). AreStripsWithin bound l) (get_or_from_slice_get wires w q q at_w) all in
-    subst (IsStripWithin bound) is (subst (IsStripWithin bound) (get_or_from_slice_get q j v.strip v.strip at_j) (here.each j v.strip (slice_get_within q j v.strip at_j))) } }
+parts_within bound wires label count each n regions h within = record {
+  each = λ e r lt. record {
+    each = λ k s k_in.
+        let (i, v, at_i, is) = h.of e (get_or regions e r) k (get_or (get_or regions e r) k s) (slice_get-get_or regions e r lt) (slice_get-get_or (get_or regions e r) k s k_in) in
+        let (w, q, j, same, at_w, at_j) = of_wire 0 wires i v at_i in
+        let all = within.each w q (slice_get_within wires w q at_w) in
+        let here : AreStripsWithin bound q = subst (λ (l : List Strip). AreStripsWithin bound l) (get_or_from_slice_get wires w q q at_w) all in
+        subst (IsStripWithin bound) is (subst (IsStripWithin bound) (get_or_from_slice_get q j v.strip v.strip at_j) (here.each j v.strip (slice_get_within q j v.strip at_j)));
+  };
+}
 
 pub empty_none : AreEmpty 0 []
 empty_none = record { each = refl; none = λ k r at. no_some r at }

@@ -11,3 +11,7 @@ pub mod Values
 pub mod CutLists
 pub mod TracedNets
 pub mod Filling
+pub mod ListReads
+pub mod TracedStart
+pub mod JoinedNets
+pub mod Making

@@ -75,11 +75,13 @@ int_same m n same = by_int (int_cmp m n) refl
 pub corner_before : (u v : Vertex) → IsStrip u.strip → IsBehind u v → node_cmp (corner u) (corner v) ≡ Less
 corner_before u v strip (inl later) = then_less (nat_cmp u.wire v.wire) (ordering_then (int_cmp u.strip.y0 v.strip.y0) (int_cmp u.strip.x0 v.strip.x0)) (inl (nat_less u.wire v.wire later))
 corner_before u v strip (inr (same, f)) =
-    then_less (nat_cmp u.wire v.wire) (ordering_then (int_cmp u.strip.y0 v.strip.y0) (int_cmp u.strip.x0 v.strip.x0)) (inr (nat_same u.wire v.wire same,
-    then_less (int_cmp u.strip.y0 v.strip.y0) (int_cmp u.strip.x0 v.strip.x0) (by_lt_z u.strip.y0 v.strip.y0
-      (λ up. inl (int_less u.strip.y0 v.strip.y0 up))
-      (λ level. let equal : u.strip.y0 ≡ v.strip.y0 = omega (arith, ints, f.later) in let right = f.right equal in let wide = strip.wide in
-        inr (int_same u.strip.y0 v.strip.y0 equal, int_less u.strip.x0 v.strip.x0 (omega (arith, ints, right, wide)))))))
+    then_less (nat_cmp u.wire v.wire) (ordering_then (int_cmp u.strip.y0 v.strip.y0) (int_cmp u.strip.x0 v.strip.x0)) (inr (
+      nat_same u.wire v.wire same,
+      then_less (int_cmp u.strip.y0 v.strip.y0) (int_cmp u.strip.x0 v.strip.x0) (by_lt_z u.strip.y0 v.strip.y0
+          (λ up. inl (int_less u.strip.y0 v.strip.y0 up))
+          (λ level. let equal : u.strip.y0 ≡ v.strip.y0 = omega (arith, ints, f.later) in let right = f.right equal in let wide = strip.wide in
+          inr (int_same u.strip.y0 v.strip.y0 equal, int_less u.strip.x0 v.strip.x0 (omega (arith, ints, right, wide))))),
+    ))
 
 less_cases : (p q : Ordering) → ordering_then p q ≡ Less → (p ≡ Less) ⊎ ((p ≡ Equal) × (q ≡ Less))
 less_cases Less q h = inl refl

@@ -66,9 +66,12 @@ module _ (nets : Nets) (label : List ℕ) (roots : List Node) (banded : AreAllBa
   -- the root of a node's strip is linked to it, and it does not come before the root
   pub root_of : (a : Node) (i : ℕ) → IsVertexAt (vertices_of 0 nets.wires) a i → (root : Node) × (slice_get roots (slice_index label i) ≡ Some root) × Linked (is_link nets) root a × (node_cmp a root ≡ Less → ⊥)
   root_of a i at_a =
-      let (root, at, linked, before) = h.reached i at_a.vertex at_a.at in
-      (root, at, linked_trans (is_link nets) root (corner at_a.vertex) a linked (touch_linked nets (corner at_a.vertex) a (corner_linked nets ordered a i at_a)),
-      not_before (corner at_a.vertex) a root (corner_least at_a.vertex a at_a.has) before)
+      let (root, at, linked, before) = h.reached i at_a.vertex at_a.at in (
+        root,
+        at,
+        linked_trans (is_link nets) root (corner at_a.vertex) a linked (touch_linked nets (corner at_a.vertex) a (corner_linked nets ordered a i at_a)),
+        not_before (corner at_a.vertex) a root (corner_least at_a.vertex a at_a.has) before,
+      )
 
   root_vertex : (k : ℕ) (r : Node) → slice_get roots k ≡ Some r → (i : ℕ) × IsVertexAt (vertices_of 0 nets.wires) r i × (slice_index label i ≡ k)
   root_vertex k r at =

@@ -154,14 +154,16 @@ module _ (wires : List (List Strip)) (ordered : AreOrdered (vertices_of 0 wires)
     more = t.more;
     added = t.added;
     ties = t.ties;
-    whole = λ value kept shared. record { one = λ x y i j has at_i at_j.
-        let one = node_of plain (node_at first x y) i at_i in
-        let two = node_of plain (node_at second x y) j at_j in
-        let here : is_in common x y ≡ true = h.cells x y ∙ and_from (is_in region x y && is_in_wire (slice_get wires first) x y) (is_in_wire (slice_get wires second) x y) (and_from (is_in region x y) (is_in_wire (slice_get wires first) x y) has one) two in
-        let (k, s, at, in_s) = strip_with common x y here in
-        let (p, at_p, left) = side first value kept k s x y i (λ a b c. (part a b c).1) at in_s at_i in
-        let (q, at_q, right) = side second value kept k s x y j (λ a b c. (part a b c).2) at in_s at_j in
-        sym left ∙ t.whole value shared k s p q (omega (arith, le, slice_get_within common k s at)) at at_p at_q ∙ right };
+    whole = λ value kept shared. record {
+      one = λ x y i j has at_i at_j.
+          let one = node_of plain (node_at first x y) i at_i in
+          let two = node_of plain (node_at second x y) j at_j in
+          let here : is_in common x y ≡ true = h.cells x y ∙ and_from (is_in region x y && is_in_wire (slice_get wires first) x y) (is_in_wire (slice_get wires second) x y) (and_from (is_in region x y) (is_in_wire (slice_get wires first) x y) has one) two in
+          let (k, s, at, in_s) = strip_with common x y here in
+          let (p, at_p, left) = side first value kept k s x y i (λ a b c. (part a b c).1) at in_s at_i in
+          let (q, at_q, right) = side second value kept k s x y j (λ a b c. (part a b c).2) at in_s at_j in
+          sym left ∙ t.whole value shared k s p q (omega (arith, le, slice_get_within common k s at)) at at_p at_q ∙ right;
+    };
   }
 
 -- ---- all pairs of wires of a cut
@@ -255,9 +257,11 @@ module _ (wires : List (List Strip)) (cut : Cut) where
 -- the cells that the region and both wires have, as two meets give them
 pub common_of : (wires : List (List Strip)) (region : List Strip) (first second : ℕ) (lower upper half common : List Strip) → slice_get wires first ≡ Some lower → slice_get wires second ≡ Some upper
     → ((x y : ℤ) → is_in half x y ≡ (is_in region x y && is_in lower x y)) → ((x y : ℤ) → is_in common x y ≡ (is_in half x y && is_in upper x y)) → IsCommon wires region first second common
-common_of wires region first second lower upper half common at_first at_second one two = record { cells = λ x y.
-    two x y ∙ ap (λ b. b && is_in upper x y) (one x y ∙ ap (λ o. is_in region x y && is_in_wire o x y) (sym at_first))
-    ∙ ap (λ o. (is_in region x y && is_in_wire (slice_get wires first) x y) && is_in_wire o x y) (sym at_second) }
+common_of wires region first second lower upper half common at_first at_second one two = record {
+  cells = λ x y.
+      two x y ∙ ap (λ b. b && is_in upper x y) (one x y ∙ ap (λ o. is_in region x y && is_in_wire o x y) (sym at_first))
+      ∙ ap (λ o. (is_in region x y && is_in_wire (slice_get wires first) x y) && is_in_wire o x y) (sym at_second);
+}
 
 -- a strip of a banded list has its least cell
 pub least_cell : (common : List Strip) (k : ℕ) (s : Strip) → Banded common → slice_get common k ≡ Some s → is_in_strip s s.x0 s.y0 ≡ true

@@ -1,6 +1,6 @@
 -- The strips of all wires in one list, and what the tracing keeps of them. No promise cites these words.
 use Rattle.std.specs.Prelude.{◌≡◌, ℕ, ◌+◌, ◌*◌, ◌<◌, ◌≤◌, ◌^◌, ◌==◌, ◌&&◌, ◌||◌, ◌⊎◌, ℤ, ◌<ℤ◌, int_lt, nat_lt, Bool, true, List, [], ◌∷◌, ◌++◌, length, map, zip, take, slice_get, slice_index, Some}
-use Rattle.std.specs.List.{All}
+use Rattle.std.specs.List.{All, AllZip}
 use Rattle.std.specs.Ordering.{int_eq}
 use Rattle.std.specs.declared.cmp.Ordering.TheVariants.{Less}
 use Rattle.link_classes.specs.Linked.{Linked}
@@ -183,3 +183,26 @@ cuts_with regions lists = map (λ p. record { region = p.0; wires = p.1 }) (zip 
 pub record AreEmpty (count : ℕ) (regions : List (List Strip)) : Type 0 where
   pub each : length regions ≡ count
   pub none : (k : ℕ) (r : List Strip) → slice_get regions k ≡ Some r → r ≡ []
+
+-- ---- lists that are read from others
+
+-- The nodes are the least ones of the strips with the first n of these indices.
+pub record AreCorners (vertices : List Vertex) (indices : List ℕ) (n : ℕ) (nodes : List Node) : Type 0 where
+  pub each : length nodes ≡ n
+  pub at : (k : ℕ) (v : Vertex) → k < n → slice_get vertices (slice_index indices k) ≡ Some v → slice_get nodes k ≡ Some (corner v)
+
+-- The nodes are those with the first n of these indices.
+pub record ArePicked (from : List Node) (indices : List ℕ) (n : ℕ) (nodes : List Node) : Type 0 where
+  pub each : length nodes ≡ n
+  pub at : (k : ℕ) → k < n → slice_get nodes k ≡ slice_get from (slice_index indices k)
+
+-- Each of the first n labels has its new number.
+pub record AreNumbered (second label : List ℕ) (n : ℕ) (new : List ℕ) : Type 0 where
+  pub each : length new ≡ n
+  pub at : (k : ℕ) → k < n → slice_index new k ≡ slice_index second (slice_index label k)
+
+-- The least nodes of the nets of the first n pairs were added.
+pub record AreEndsOf (roots : List Node) (pairs : List (ℕ × ℕ)) (n : ℕ) (old new : List (Node × Node)) : Type 0 where
+  pub ends : List (Node × Node)
+  pub added : new ≡ old ++ ends
+  pub at : AllZip (λ p e. (slice_get roots p.0 ≡ Some e.0) × (slice_get roots p.1 ≡ Some e.1)) (take n pairs) ends

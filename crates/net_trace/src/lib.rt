@@ -12,13 +12,18 @@
 
 mod bands;
 mod cuts;
+mod joining;
+mod laws;
 mod node;
 mod parts;
 mod refusal;
 mod ties;
 mod traced;
+mod tracing;
 mod wiring;
 
+pub use laws::one_numbering_of_nets;
 pub use node::Node;
 pub use refusal::TraceRefusal;
 pub use traced::Traced;
+pub use tracing::trace;

@@ -1,16 +1,18 @@
 //! Traced nets.
 
-ghost use Rattle.std.specs.Prelude.{◌≡◌, ℕ, ◌<◌, ◌≤◌, ◌^◌, length, IfOk, MatchOption, false};
+ghost use Rattle.std.specs.Prelude.{◌≡◌, ℕ, ◌<◌, ◌≤◌, ◌^◌, length, map, All, IfOk, MatchOption, false};
 ghost use Rattle.mask_region.specs.Strips.{AreRegionsWithin};
 ghost use Rattle.net_trace.specs.Touching.{has_node};
-ghost use Rattle.net_trace.specs.Nets.{node_at, IsNetCount, IsNetNumber, IsRegionOf, AreRegionsOf};
+ghost use Rattle.net_trace.specs.Nets.{node_at, IsNetCount, IsNetNumber, IsRegionOf, AreRegionsOf, IsJoinedBy};
 ghost use Rattle.net_trace.specs.Wirings.{IsTraced};
 
 use crate::cuts::CutArea;
+use crate::joining::{add_ends, numbered, numbers, picked};
 use crate::node::Node;
 use crate::parts::parts;
 use crate::wiring::Wiring;
 use layer_map::WireId;
+use link_classes::classes_of;
 use mask_region::Region;
 use plane_geom::Point;
 use std::alloc::{AllocError, Global};
@@ -111,5 +113,26 @@ impl Traced {
         ensures within { AreRegionsWithin (2 ^ 24) result.now }
     {
         self.regions.as_slice()
+    }
+
+    /// The same nets, where the two nets of each pair are joined, and all are numbered anew. The numbers are in range.
+    pub fn joined(self, alloc: Global, pairs: &[(NetId, NetId)]) -> Result<Traced, AllocError>
+        requires { (n : ℕ) → IsNetCount self n → All (λ p. (p.0.0 < n) × (p.1.0 < n)) pairs.now }
+        ensures { IfOk result (λ t. IsJoinedBy self (map (λ p. (p.0.0, p.1.0)) pairs.now) t) }
+    {
+        let Traced {
+            wiring,
+            cuts,
+            mut joins,
+            label,
+            roots,
+            regions: _,
+        } = self;
+        let pairs = numbers(alloc, pairs)?;
+        let found = classes_of(alloc, roots.len(), pairs.as_slice())?;
+        add_ends(&mut joins, roots.as_slice(), pairs.as_slice())?;
+        let label = numbered(alloc, label.as_slice(), found.label.as_slice())?;
+        let roots = picked(alloc, roots.as_slice(), found.least.as_slice())?;
+        Traced::new(alloc, wiring, cuts, joins, label, roots)
     }
 }

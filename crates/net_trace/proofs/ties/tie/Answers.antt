@@ -24,8 +24,8 @@ loop-strip-preserved c =
     let lower = c.in-Some.ensures.lookup.3 in
     let upper = c.in-Some-get.ensures.lookup.3 in
     let common = common_of c.args.wiring.now c.args.cut.now c.args.first c.args.second c.in-Some.lower.now c.in-Some-get.upper.now c.in_ok-meet.field-0 c.in_ok-common.common
-        (wire_at c.wires.result.now c.args.wiring.now c.args.first c.in-Some.lower.now c.wires.ensures.same lower.0 (lower.1 _))
-        (wire_at c.wires-2.result.now c.args.wiring.now c.args.second c.in-Some-get.upper.now c.wires-2.ensures.same upper.0 (upper.1 _)) c.in_ok-meet.ensures c.in_ok-common.ensures in
+    (wire_at c.wires.result.now c.args.wiring.now c.args.first c.in-Some.lower.now c.wires.ensures.same lower.0 (lower.1 _))
+    (wire_at c.wires-2.result.now c.args.wiring.now c.args.second c.in-Some-get.upper.now c.wires-2.ensures.same upper.0 (upper.1 _)) c.in_ok-meet.ensures c.in_ok-common.ensures in
     let ordered = vertices_ordered c.args.wiring.now c.wires.ensures.banded in
     let step = strip_step c.args.wiring.now c.args.cut.now c.args.first c.args.second c.in_ok-common.common c.strips-strip-items.result.now c.loop-strip.strip-index _ ordered c.strips-strip-items.ensures.same common c.strips-strip-items.ensures.banded c.loop-strip-test.true in
     elim c.match-pair_at.branch [
@@ -38,11 +38,11 @@ loop-strip-preserved c =
     ]
 
 pub returns : goal.returns
-returns c = 
+returns c =
     let lower = c.in-Some.ensures.lookup.3 in
     let upper = c.in-Some-get.ensures.lookup.3 in
     let common = common_of c.args.wiring.now c.args.cut.now c.args.first c.args.second c.in-Some.lower.now c.in-Some-get.upper.now c.in_ok-meet.field-0 c.in_ok-common.common
-        (wire_at c.wires.result.now c.args.wiring.now c.args.first c.in-Some.lower.now c.wires.ensures.same lower.0 (lower.1 _))
-        (wire_at c.wires-2.result.now c.args.wiring.now c.args.second c.in-Some-get.upper.now c.wires-2.ensures.same upper.0 (upper.1 _)) c.in_ok-meet.ensures c.in_ok-common.ensures in
+    (wire_at c.wires.result.now c.args.wiring.now c.args.first c.in-Some.lower.now c.wires.ensures.same lower.0 (lower.1 _))
+    (wire_at c.wires-2.result.now c.args.wiring.now c.args.second c.in-Some-get.upper.now c.wires-2.ensures.same upper.0 (upper.1 _)) c.in_ok-meet.ensures c.in_ok-common.ensures in
     tied_all c.args.wiring.now (vertices_ordered c.args.wiring.now c.wires.ensures.banded) c.args.cut.now c.args.first c.args.second c.in_ok-common.common common c.loop-strip.strip-index c.args.pairs.now.items c.loop-strip.pairs.items
     (omega (arith, c.loop-strip-test.false, ap (λ l. length l) c.strips-strip-items.ensures.same)) (subst (λ l. IsTying c.args.wiring.now c.args.cut.now c.args.first c.args.second l c.loop-strip.strip-index c.args.pairs.now.items c.loop-strip.pairs.items) c.strips-strip-items.ensures.same c.loop-strip.invariant)

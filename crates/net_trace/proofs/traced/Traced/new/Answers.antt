@@ -12,10 +12,15 @@ invariant_of-result c =
     let count = c.len-nets.ensures ∙ c.args.roots.ok.0 in
     let wires = ap (λ l. length l) c.wires-wires.ensures.same in
     let parts : AreParts (vertices_of 0 c.args.wiring) c.args.label.items (length c.args.roots.items) (length c.args.wiring) (length (vertices_of 0 c.args.wiring)) c.in_ok-regions.regions.items =
-      subst (λ l. AreParts (vertices_of 0 c.args.wiring) l (length c.args.roots.items) (length c.args.wiring) (length (vertices_of 0 c.args.wiring)) c.in_ok-regions.regions.items) c.as_slice.ensures.value
-      (parts_moved c.vertices.result.now (vertices_of 0 c.args.wiring) c.as_slice.result.now c.len-nets.result (length c.wires-wires.result.now) (length c.args.roots.items) (length c.args.wiring) c.in_ok-regions.regions.items c.vertices.ensures.same count wires c.in_ok-regions.ensures) in
-    (c.vertices.ensures.banded, c.wires-wires.ensures.few, c.requires.few, c.requires.traced, parts,
-     parts_within (2 ^ 24) c.args.wiring c.args.label.items (length c.args.roots.items) (length c.args.wiring) (length (vertices_of 0 c.args.wiring)) c.in_ok-regions.regions.items parts c.wires-wires.ensures.within)
+    subst (λ l. AreParts (vertices_of 0 c.args.wiring) l (length c.args.roots.items) (length c.args.wiring) (length (vertices_of 0 c.args.wiring)) c.in_ok-regions.regions.items) c.as_slice.ensures.value
+    (parts_moved c.vertices.result.now (vertices_of 0 c.args.wiring) c.as_slice.result.now c.len-nets.result (length c.wires-wires.result.now) (length c.args.roots.items) (length c.args.wiring) c.in_ok-regions.regions.items c.vertices.ensures.same count wires c.in_ok-regions.ensures) in (
+      c.vertices.ensures.banded,
+      c.wires-wires.ensures.few,
+      c.requires.few,
+      c.requires.traced,
+      parts,
+      parts_within (2 ^ 24) c.args.wiring c.args.label.items (length c.args.roots.items) (length c.args.wiring) (length (vertices_of 0 c.args.wiring)) c.in_ok-regions.regions.items parts c.wires-wires.ensures.within,
+    )
 
 pub parts-requires-clause-ordered : goal.parts-requires-clause-ordered
 parts-requires-clause-ordered c = subst AreOrdered (sym c.vertices.ensures.same) (vertices_ordered c.args.wiring c.vertices.ensures.banded)

@@ -1,5 +1,5 @@
 -- Strips, and the cells of a list of strips.
-use Rattle.std.specs.Prelude.{◌≡◌, ℕ, ◌^◌, ℤ, pos, neg_ℤ, ◌≤ℤ◌, ◌<ℤ◌, Bool, ◌&&◌, List, [], ◌∷◌}
+use Rattle.std.specs.Prelude.{◌≡◌, ℕ, ◌^◌, ℤ, pos, neg_ℤ, ◌≤ℤ◌, ◌<ℤ◌, Bool, true, ◌&&◌, List, [], ◌∷◌, slice_get, Some}
 use Rattle.std.specs.List.{All, AllByRecursion, list_any}
 use Rattle.plane_geom.specs.Bounds.{IsWithin}
 use Rattle.plane_geom.specs.Cells.{is_between}
@@ -14,6 +14,12 @@ is_in_strip s x y = is_between s.x0 s.x1 x && is_between s.y0 s.y1 y
 -- the cells of all strips of a list
 abbrev pub is_in : List Strip → ℤ → ℤ → Bool
 is_in strips x y = list_any (λ s. is_in_strip s x y) strips
+
+-- The strip with this index has the cell.
+pub record HasCellAt (strips : List Strip) (x y : ℤ) (k : ℕ) : Type 0 where
+  pub strip : Strip
+  pub at : slice_get strips k ≡ Some strip
+  pub has : is_in_strip strip x y ≡ true
 
 -- ---- bands
 

@@ -1,15 +1,15 @@
-ghost use Rattle.std.specs.Prelude.{◌≡◌, ◌^◌, ◌<◌, ◌≤◌, ℤ, [], not, ◌&&◌, ◌||◌, IfOk};
+ghost use Rattle.std.specs.Prelude.{◌≡◌, ◌^◌, ◌<◌, ◌≤◌, ◌++◌, ◌∷◌, ℤ, [], false, not, ◌&&◌, ◌||◌, IfOk, OnOk, OnErr, MatchOption};
 ghost use Rattle.std.specs.List.{All};
 ghost use Rattle.plane_geom.specs.Bounds.{IsRectWithin};
 ghost use Rattle.plane_geom.specs.Cells.{is_in_rects, is_met, count_cells};
 ghost use Rattle.mask_region.specs.Joins.{joined};
-ghost use Rattle.mask_region.specs.Strips.{is_in, AreStripsWithin, Banded};
+ghost use Rattle.mask_region.specs.Strips.{is_in, AreStripsWithin, Banded, HasCellAt};
 
 use crate::bands::join;
 use crate::columns::meet_strips;
 use crate::ends::Joining;
 use crate::rects::strips_of;
-use crate::sizes::{area_of, grown_rects, has_cell};
+use crate::sizes::{area_of, find_strip, grown_rects, has_cell};
 use crate::strips::Strip;
 use plane_geom::{Point, Rect};
 use std::alloc::{AllocError, Global};
@@ -55,6 +55,26 @@ impl Region {
         })
     }
 
+    /// The same region once more.
+    pub fn copy(&self, alloc: Global) -> Result<Region, AllocError>
+        ensures { IfOk result (λ r. r ≡ self.now) }
+    {
+        Ok(Region {
+            strips: Vec::from_slice(alloc, self.strips.as_slice())?,
+        })
+    }
+
+    /// Adds a strip behind all others: it is not empty, and follows each of them as `Banded` says. Where no memory is
+    /// found, the region stays as it is.
+    pub fn push(&mut self, strip: Strip) -> Result<(), AllocError>
+        requires { Banded (self.old ++ strip ∷ []) }
+        ensures pushed { OnOk result (self.new ≡ self.old ++ strip ∷ []) }
+        ensures kept { OnErr result (self.new ≡ self.old) }
+    {
+        self.strips.push(strip)?;
+        Ok(())
+    }
+
     /// The cells that are in this region, in the other one, or in both.
     pub fn union(&self, alloc: Global, other: &Region) -> Result<Region, AllocError>
         ensures { IfOk result (λ r. (x y : ℤ) → is_in r x y ≡ (is_in self.now x y || is_in other.now x y)) }
@@ -94,6 +114,13 @@ impl Region {
         ensures { result ≡ is_in self.now cell.x cell.y }
     {
         has_cell(self.strips.as_slice(), cell)
+    }
+
+    /// The index, among the strips, of the one that has the cell; `None` where none has. The search is a binary one.
+    pub fn strip_at(&self, cell: Point) -> Option<usize>
+        ensures { MatchOption result (is_in self.now cell.x cell.y ≡ false) (λ k. HasCellAt self.now cell.x cell.y k) }
+    {
+        find_strip(self.strips.as_slice(), cell)
     }
 
     /// How many cells the region has.

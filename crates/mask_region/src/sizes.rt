@@ -1,8 +1,8 @@
-ghost use Rattle.std.specs.Prelude.{◌≡◌, ◌^◌, ◌<◌, ◌≤◌, ℤ, IfOk};
+ghost use Rattle.std.specs.Prelude.{◌≡◌, ◌^◌, ◌<◌, ◌≤◌, ℤ, false, IfOk, MatchOption};
 ghost use Rattle.std.specs.List.{All};
 ghost use Rattle.plane_geom.specs.Bounds.{IsRectWithin};
 ghost use Rattle.plane_geom.specs.Cells.{is_in_rects, is_met, count_cells};
-ghost use Rattle.mask_region.specs.Strips.{is_in, AreStripsWithin, Banded};
+ghost use Rattle.mask_region.specs.Strips.{is_in, AreStripsWithin, Banded, HasCellAt};
 
 use crate::strips::Strip;
 use plane_geom::{Point, Rect};
@@ -49,5 +49,17 @@ pub(crate) fn has_cell(strips: &[Strip], cell: Point) -> bool
     match strips.get(k) {
         Some(strip) => strip.has(cell),
         None => false,
+    }
+}
+
+/// The index of the strip that has the cell, by a binary search.
+pub(crate) fn find_strip(strips: &[Strip], cell: Point) -> Option<usize>
+    requires { Banded strips.now }
+    ensures { MatchOption result (is_in strips.now cell.x cell.y ≡ false) (λ k. HasCellAt strips.now cell.x cell.y k) }
+{
+    let k = strips.partition_point(|strip| strip.is_before(cell));
+    match strips.get(k) {
+        Some(strip) if strip.has(cell) => Some(k),
+        _ => None,
     }
 }

@@ -194,3 +194,20 @@ fn lends_its_regions(rt: HostRuntime) -> Result<(), Fail> {
     }
     Ok(())
 }
+
+#[test]
+fn is_built_strip_by_strip(rt: HostRuntime) -> Result<(), Fail> {
+    let mut made = Region::empty(rt.alloc());
+    made.push(Strip {
+        y0: 0,
+        y1: 3,
+        x0: 0,
+        x1: 4,
+    })?;
+    let first = made.copy(rt.alloc())?;
+    assert_eq!(rt; first.strips(), [strip(0, 3, 0, 4)].as_slice());
+    assert_eq!(rt; first.strip_at(Point { x: 3, y: 2 }), Some(0));
+    assert_eq!(rt; first.strip_at(Point { x: 4, y: 2 }), None);
+    assert_eq!(rt; first.strip_at(Point { x: 3, y: 3 }), None);
+    Ok(())
+}

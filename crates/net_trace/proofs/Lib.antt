@@ -1,0 +1,17 @@
+pub mod Banding
+pub mod VertexLists
+pub mod VertexFacts
+pub mod Wires
+pub mod NodeOrder
+pub mod Rectangles
+pub mod Tying
+pub mod Edging
+pub mod Lists
+pub mod Values
+pub mod CutLists
+pub mod TracedNets
+pub mod Filling
+pub mod ListReads
+pub mod TracedStart
+pub mod JoinedNets
+pub mod Making

@@ -1,0 +1,41 @@
+-- Facts of all elements of two lists that are put together.
+use Rattle.std.proofs.Common.{◌≡◌, List, [], ◌∷◌, ◌++◌, refl, ap, Bool, true, false, ◌||◌, ◌⊎◌, inl, inr}
+use Rattle.std.specs.List.{All, AllByRecursion}
+use Rattle.std.proofs.lemmas.List.Elements.{All-from_recursion, recursion_from_All}
+
+pub none_more : {A : Type 0} (xs : List A) → xs ≡ xs ++ []
+none_more [] = refl
+none_more (x ∷ xs) = ap (λ l. x ∷ l) (none_more xs)
+
+left_part : {A : Type 0} (P : A → Type 0) (xs ys : List A) → AllByRecursion P (xs ++ ys) → AllByRecursion P xs
+left_part P [] ys h = tt
+left_part P (x ∷ xs) ys h = (h.0, left_part P xs ys h.1)
+
+right_part : {A : Type 0} (P : A → Type 0) (xs ys : List A) → AllByRecursion P (xs ++ ys) → AllByRecursion P ys
+right_part P [] ys h = h
+right_part P (x ∷ xs) ys h = right_part P xs ys h.1
+
+pub all_left : {A : Type 0} (P : A → Type 0) (xs ys : List A) → All P (xs ++ ys) → All P xs
+all_left P xs ys h = All-from_recursion P xs (left_part P xs ys (recursion_from_All P (xs ++ ys) h))
+
+pub all_right : {A : Type 0} (P : A → Type 0) (xs ys : List A) → All P (xs ++ ys) → All P ys
+all_right P xs ys h = All-from_recursion P ys (right_part P xs ys (recursion_from_All P (xs ++ ys) h))
+
+pub all_last : {A : Type 0} (P : A → Type 0) (xs : List A) (x : A) → All P (xs ++ x ∷ []) → P x
+all_last P xs x h = (recursion_from_All P (x ∷ []) (all_right P xs (x ∷ []) h)).0
+
+pub or_first : (p q : Bool) → p ≡ true → (p || q) ≡ true
+or_first true q h = refl
+or_first false true h = refl
+or_first false false h = h
+
+pub or_second : (p q : Bool) → q ≡ true → (p || q) ≡ true
+or_second true q h = refl
+or_second false q h = h
+
+pub or_either : (p q : Bool) → (p || q) ≡ true → (p ≡ true) ⊎ (q ≡ true)
+or_either true q h = inl refl
+or_either false q h = inr h
+
+pub not_both_ways : {P : Type 0} (b : Bool) → b ≡ true → b ≡ false → P
+not_both_ways b is not = let none : ⊥ = cc in absurd none

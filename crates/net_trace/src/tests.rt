@@ -14,7 +14,7 @@ use std::test::Fail;
 use switch_net::NetId;
 
 /// Two wires and a cut.
-const MAP: &[u8] = b"wire m1 A\nwire m2 B\ncut C : m1 m2\n";
+const MAP: &[u8] = b"wire m1 A\nwire m2 B\ncut C : m1 m2\nhigh Vdd\nlow GND\n";
 
 /// The corners of a rectangle: x0, y0, x1, y1.
 type Corners = (i16, i16, i16, i16);
@@ -87,18 +87,6 @@ fn nets(alloc: Global, masks: &Masks, map: &LayerMap) -> Result<Traced, TraceRef
 fn traced(alloc: Global, map: &LayerMap, drawing: &Drawing) -> Result<Traced, TraceRefusal> {
     let masks = masks(alloc, drawing)?;
     nets(alloc, &masks, map)
-}
-
-/// The nets where those of two numbers are joined, if both are in range.
-fn join(alloc: Global, traced: Traced, first: u32, second: u32) -> Result<Traced, AllocError> {
-    let count = traced.count();
-    if first >= count {
-        return Ok(traced);
-    }
-    if second >= count {
-        return Ok(traced);
-    }
-    traced.joined(alloc, &[(NetId(first), NetId(second))])
 }
 
 #[test]
@@ -180,7 +168,7 @@ fn counts_nets(rt: HostRuntime) -> Result<(), Fail> {
 }
 
 #[test]
-fn joins_nets(rt: HostRuntime) -> Result<(), Fail> {
+fn finds_the_net_of_a_cell(rt: HostRuntime) -> Result<(), Fail> {
     let map = read(rt.alloc(), MAP)?;
     let drawing = Drawing {
         first: &[(0, 0, 1, 1), (3, 0, 4, 1), (6, 0, 7, 1)],
@@ -200,16 +188,5 @@ fn joins_nets(rt: HostRuntime) -> Result<(), Fail> {
     );
     assert_eq!(rt; nets.net_at(WireId(1), Point { x: 4, y: 0 }), None);
     assert_eq!(rt; nets.regions().len(), 8);
-    let once = join(rt.alloc(), nets, 3, 0)?;
-    assert_eq!(rt;
-        once.net_at(WireId(1), Point { x: 3, y: 0 }),
-        Some(NetId(0))
-    );
-    let twice = join(rt.alloc(), once, 1, 2)?;
-    assert_eq!(rt; twice.count(), 2);
-    assert_eq!(rt;
-        twice.net_at(WireId(0), Point { x: 6, y: 0 }),
-        Some(NetId(1))
-    );
     Ok(())
 }

@@ -1,5 +1,5 @@
 -- Pairs of strips that link what touches, along wires and through the first cuts.
-use Rattle.std.proofs.Common.{◌≡◌, ℕ, ◌+◌, ◌<◌, ◌≤◌, ◌⊎◌, Bool, true, false, ◌&&◌, ◌||◌, ◌==◌, List, [], ◌∷◌, ◌++◌, length, refl, sym, ap, ◌∙◌, subst, arith, inl, inr, slice_get, get_or, Some}
+use Rattle.std.proofs.Common.{◌≡◌, ℕ, ◌+◌, ◌<◌, ◌≤◌, true, ◌&&◌, ◌||◌, ◌==◌, List, [], length, refl, sym, ap, ◌∙◌, subst, arith, inl, inr, slice_get, Some}
 use Rattle.std.specs.Prelude.{ℤ, pos, ◌+ℤ◌, ◌-ℤ◌, ◌<ℤ◌, ◌≤ℤ◌}
 use Rattle.std.specs.List.{All, list_any}
 use Rattle.std.specs.Ordering.{int_eq}
@@ -9,7 +9,6 @@ use Rattle.std.proofs.lemmas.List.Elements.{All-append, All-weaker}
 use Rattle.std.proofs.lemmas.List.Folds.{Any-from_list_any, list_any-from_Any}
 use Rattle.std.proofs.lemmas.Option.{slice_get_within, slice_get_read, get_or_from_slice_get}
 use Rattle.link_classes.specs.Linked.{Linked}
-use Rattle.link_classes.specs.Classes.{has_pair}
 use Rattle.link_classes.proofs.Chains.{linked_touch, linked_trans, linked_sym}
 use Rattle.link_classes.proofs.Pairs.{pair_shared}
 use Rattle.mask_region.specs.declared.strips.Strip.{Strip}
@@ -18,10 +17,10 @@ use Rattle.net_trace.specs.declared.node.Node.{Node}
 use Rattle.net_trace.specs.declared.wiring.Vertex.{Vertex}
 use Rattle.net_trace.specs.Touching.{Cut, Nets, is_node, is_beside, is_along, is_listed, is_cut_at, is_through, touches}
 use Rattle.net_trace.specs.Nets.{node_at}
-use Rattle.net_trace.specs.Wirings.{is_at, corner, vertices_of, IsVertexAt, IsBehind, AreOrdered, is_meeting, is_below, IsBelowPair, AreBands, IsSound, AreShared, IsKept, is_along_wire, AreEdges, IsTie, AreOneUnder, IsTieOf, AreTied}
-use Rattle.net_trace.proofs.Lists.{all_left, all_right, or_second, or_either, not_both_ways}
+use Rattle.net_trace.specs.Wirings.{is_at, corner, vertices_of, IsVertexAt, IsBehind, AreOrdered, is_meeting, is_below, IsBelowPair, AreBands, IsSound, AreShared, IsKept, is_along_wire, AreEdges, AreOneUnder, IsTieOf, AreTied}
+use Rattle.net_trace.proofs.Lists.{all_left, all_right, or_second, or_either}
 use Rattle.net_trace.proofs.VertexLists.{some_one}
-use Rattle.net_trace.proofs.VertexFacts.{node_of, vertex_node, one_vertex}
+use Rattle.net_trace.proofs.VertexFacts.{node_of}
 use Rattle.net_trace.proofs.Values.{corner_linked, along_touches}
 
 pub record AreEdgesTo (wires : List (List Strip)) (cuts : List Cut) (n : ℕ) (pairs : List (ℕ × ℕ)) : Type 0 where

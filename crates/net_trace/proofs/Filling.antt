@@ -1,16 +1,16 @@
 -- The regions of nets are filled strip by strip.
-use Rattle.std.proofs.Common.{◌≡◌, ◌≢◌, ℕ, zero, suc, ◌+◌, ◌*◌, ◌/◌, ◌<◌, ◌≤◌, ◌⊎◌, Bool, true, List, [], ◌∷◌, ◌++◌, length, refl, sym, ap, ◌∙◌, subst, arith, inl, inr, slice_get, slice_index, slice_set, get_or, Some}
+use Rattle.std.proofs.Common.{◌≡◌, ◌≢◌, ℕ, zero, suc, ◌+◌, ◌*◌, ◌/◌, ◌<◌, ◌⊎◌, List, [], ◌∷◌, ◌++◌, length, refl, sym, ap, ◌∙◌, subst, arith, inl, inr, slice_get, slice_index, slice_set, get_or, Some}
 use Rattle.std.specs.List.{All, AllByRecursion}
-use Rattle.std.proofs.lemmas.Bool.{cases_order, cases_eq}
+use Rattle.std.proofs.lemmas.Bool.{cases_order}
 use Rattle.std.proofs.lemmas.List.{length-set}
 use Rattle.std.proofs.lemmas.Nat.{div-mul-add}
-use Rattle.std.proofs.lemmas.List.Elements.{All-get_or, recursion_from_All}
-use Rattle.std.proofs.lemmas.Option.{slice_get_within, slice_get_read, slice_get-get_or, get_or_from_slice_get}
+use Rattle.std.proofs.lemmas.List.Elements.{recursion_from_All}
+use Rattle.std.proofs.lemmas.Option.{slice_get_within, slice_get-get_or, get_or_from_slice_get}
 use Rattle.mask_region.specs.declared.strips.Strip.{Strip}
-use Rattle.mask_region.specs.Strips.{IsStrip, Follows, IsBanded, Banded, IsStripWithin, AreStripsWithin, AreRegionsWithin}
+use Rattle.mask_region.specs.Strips.{Follows, Banded, IsStripWithin, AreStripsWithin, AreRegionsWithin}
 use Rattle.mask_region.proofs.Banding.{banded-push}
 use Rattle.net_trace.specs.declared.wiring.Vertex.{Vertex}
-use Rattle.net_trace.specs.Wirings.{vertices_of, AreAllBanded, IsBehind, AreOrdered, AreParts, AreEmpty}
+use Rattle.net_trace.specs.Wirings.{vertices_of, IsBehind, AreOrdered, AreParts, AreEmpty}
 use Rattle.net_trace.proofs.VertexLists.{some_one, no_some, get_left, get_right, get_append, of_wire}
 
 -- ---- one element of a list is set

@@ -1,8 +1,8 @@
 -- The classes of nets, by the pairs that are joined, are the nets where those are joined too.
-use Rattle.std.proofs.Common.{◌≡◌, ℕ, zero, suc, ◌+◌, ◌<◌, ◌≤◌, ◌⊎◌, Bool, true, false, ◌&&◌, ◌||◌, ◌==◌, List, [], ◌∷◌, ◌++◌, length, refl, sym, ap, ◌∙◌, subst, arith, inl, inr, slice_get, slice_index, get_or, Some}
+use Rattle.std.proofs.Common.{◌≡◌, ℕ, zero, suc, ◌<◌, ◌≤◌, ◌⊎◌, true, ◌&&◌, ◌==◌, List, [], ◌∷◌, ◌++◌, length, refl, sym, ap, ◌∙◌, subst, arith, inl, inr, slice_get, slice_index, get_or, Some}
 use Rattle.std.specs.Prelude.{ℤ, pos}
 use Rattle.std.specs.Ordering.{int_eq}
-use Rattle.std.specs.List.{All, AllZip, list_any}
+use Rattle.std.specs.List.{AllZip}
 use Rattle.std.specs.declared.cmp.Ordering.TheVariants.{Less}
 use Rattle.std.proofs.lemmas.Bool.{cases_order, and_parts, and_from, eqb-true, eq-eqb}
 use Rattle.std.proofs.lemmas.Int.{ints}
@@ -11,10 +11,9 @@ use Rattle.std.proofs.lemmas.Option.{slice_get_within, slice_get_read, slice_get
 use Rattle.link_classes.specs.Linked.{Linked}
 use Rattle.link_classes.specs.Classes.{has_pair, AreClasses}
 use Rattle.link_classes.proofs.Chains.{linked_touch, linked_trans, linked_map}
-use Rattle.mask_region.specs.declared.strips.Strip.{Strip}
 use Rattle.net_trace.specs.declared.node.Node.{Node}
 use Rattle.net_trace.specs.declared.wiring.Vertex.{Vertex}
-use Rattle.net_trace.specs.Touching.{Cut, Nets, is_node, touches}
+use Rattle.net_trace.specs.Touching.{Nets, is_node, touches}
 use Rattle.net_trace.specs.Nets.{node_cmp, is_same, is_joined, is_link}
 use Rattle.net_trace.specs.Wirings.{is_at, corner, vertices_of, AreAllBanded, AreOrdered, IsVertexAt, IsTraced, ArePicked, AreNumbered}
 use Rattle.net_trace.proofs.Lists.{or_first, or_second, or_either}

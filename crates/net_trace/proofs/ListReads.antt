@@ -3,12 +3,12 @@ use Rattle.std.proofs.Common.{◌≡◌, ℕ, zero, suc, ◌+◌, ◌<◌, ◌�
 use Rattle.std.specs.List.{AllZip}
 use Rattle.std.proofs.lemmas.Bool.{cases_order}
 use Rattle.std.proofs.lemmas.List.{length_push, take_more, take_all, get_or_push, get_or_append_left}
-use Rattle.std.proofs.lemmas.Option.{slice_get_within, slice_get-get_or, get_or_from_slice_get}
+use Rattle.std.proofs.lemmas.Option.{slice_get-get_or, get_or_from_slice_get}
 use Rattle.net_trace.specs.declared.node.Node.{Node}
 use Rattle.net_trace.specs.declared.wiring.Vertex.{Vertex}
 use Rattle.net_trace.specs.Wirings.{corner, AreCorners, ArePicked, AreNumbered, AreEndsOf}
 use Rattle.net_trace.proofs.Lists.{none_more}
-use Rattle.net_trace.proofs.VertexLists.{some_one, get_left, get_right}
+use Rattle.net_trace.proofs.VertexLists.{get_right}
 
 pub same_default : (xs : List ℕ) (k d : ℕ) → k < length xs → get_or xs k d ≡ slice_index xs k
 same_default xs k d lt = get_or_from_slice_get xs k (slice_index xs k) d (slice_get-get_or xs k 0 lt)

@@ -1,15 +1,13 @@
 -- The nodes of a rectangle are linked along its wire.
-use Rattle.std.proofs.Common.{◌≡◌, ℕ, zero, suc, ◌+◌, ◌<◌, ◌≤◌, Bool, true, ◌&&◌, ◌||◌, ◌==◌, refl, sym, ap, ◌∙◌, subst, arith, List, slice_get}
-use Rattle.std.specs.Prelude.{ℤ, pos, ◌+ℤ◌, ◌-ℤ◌, ◌≤ℤ◌, ◌<ℤ◌, unsigned_abs}
-use Rattle.std.specs.Ordering.{int_eq}
-use Rattle.std.proofs.lemmas.Bool.{and_parts, and_from, eq-eqb}
+use Rattle.std.proofs.Common.{◌≡◌, ℕ, zero, suc, ◌≤◌, true, ◌&&◌, ◌==◌, refl, sym, subst, arith, List, slice_get}
+use Rattle.std.specs.Prelude.{ℤ, pos, ◌+ℤ◌, ◌-ℤ◌, ◌≤ℤ◌, unsigned_abs}
+use Rattle.std.proofs.lemmas.Bool.{and_from, eq-eqb}
 use Rattle.std.proofs.lemmas.Int.{ints}
 use Rattle.link_classes.specs.Linked.{Linked}
-use Rattle.link_classes.proofs.Chains.{linked_refl, linked_touch, linked_trans, linked_sym}
+use Rattle.link_classes.proofs.Chains.{linked_refl, linked_touch, linked_trans}
 use Rattle.mask_region.specs.declared.strips.Strip.{Strip}
 use Rattle.mask_region.specs.Strips.{is_in_strip}
-use Rattle.net_trace.specs.declared.node.Node.{Node}
-use Rattle.net_trace.specs.Touching.{is_in_wire, is_step, is_beside, is_along}
+use Rattle.net_trace.specs.Touching.{is_in_wire, is_beside}
 use Rattle.net_trace.specs.Nets.{node_at}
 use Rattle.net_trace.specs.Wirings.{is_along_wire}
 

@@ -1,22 +1,22 @@
 -- What the labels of strips and the least nodes say of the nets.
-use Rattle.std.proofs.Common.{◌≡◌, ℕ, ◌+◌, ◌*◌, ◌<◌, ◌≤◌, ◌⊎◌, Bool, true, false, ◌&&◌, ◌||◌, ◌==◌, List, [], ◌∷◌, ◌++◌, length, refl, sym, ap, ◌∙◌, subst, arith, inl, inr, slice_get, slice_index, get_or, Some}
-use Rattle.std.specs.Prelude.{ℤ, pos}
+use Rattle.std.proofs.Common.{◌≡◌, ℕ, ◌+◌, ◌*◌, ◌<◌, true, ◌&&◌, ◌||◌, ◌==◌, List, length, refl, sym, ap, ◌∙◌, subst, arith, inl, inr, slice_get, slice_index, get_or, Some}
+use Rattle.std.specs.Prelude.{pos}
 use Rattle.std.specs.List.{All}
 use Rattle.std.specs.declared.cmp.Ordering.{Ordering}
 use Rattle.std.specs.declared.cmp.Ordering.TheVariants.{Less, Equal, Greater}
 use Rattle.std.specs.Ordering.{ordering_reverse}
 use Rattle.std.proofs.lemmas.Bool.{and_parts, and_from, eqb-true, eq-eqb}
-use Rattle.std.proofs.lemmas.Option.{slice_get_within, slice_get_read, slice_get-get_or, get_or_from_slice_get}
+use Rattle.std.proofs.lemmas.Option.{slice_get_within, slice_get-get_or, get_or_from_slice_get}
 use Rattle.link_classes.specs.Linked.{Linked}
 use Rattle.link_classes.proofs.Chains.{linked_refl, linked_touch, linked_trans, linked_sym, linked_map, linked_kept}
 use Rattle.link_classes.proofs.UniqueNumbers.{number_one}
 use Rattle.mask_region.specs.declared.strips.Strip.{Strip}
-use Rattle.mask_region.specs.Strips.{is_in_strip, is_in}
+use Rattle.mask_region.specs.Strips.{is_in_strip}
 use Rattle.net_trace.specs.declared.node.Node.{Node}
 use Rattle.net_trace.specs.declared.wiring.Vertex.{Vertex}
 use Rattle.net_trace.specs.Touching.{Nets, is_node, is_along, is_through, touches}
 use Rattle.net_trace.specs.Nets.{node_cmp, is_joined, is_link, AreNetRoots, IsNetNumber, IsNetCount, node_at, IsRegionOf, AreRegionsOf}
-use Rattle.net_trace.specs.Wirings.{is_at, corner, vertices_of, AreAllBanded, IsVertexAt, AreOrdered, IsKept, IsTraced, AreParts}
+use Rattle.net_trace.specs.Wirings.{is_at, corner, vertices_of, AreAllBanded, IsVertexAt, AreOrdered, IsTraced, AreParts}
 use Rattle.net_trace.proofs.Lists.{or_first, or_either}
 use Rattle.net_trace.proofs.VertexLists.{some_one, vertices_ordered, of_wire}
 use Rattle.net_trace.proofs.VertexFacts.{in_region, strip_with, node_vertex, node_of, has_corner}

@@ -1,8 +1,6 @@
 -- The classes of strips, by pairs that link what touches, are nets where nothing is joined.
-use Rattle.std.proofs.Common.{◌≡◌, ℕ, ◌+◌, ◌<◌, ◌≤◌, ◌⊎◌, Bool, true, false, ◌&&◌, ◌||◌, ◌==◌, List, [], ◌∷◌, length, refl, sym, ap, ◌∙◌, subst, arith, inl, inr, slice_get, slice_index, get_or, Some}
+use Rattle.std.proofs.Common.{◌≡◌, ℕ, ◌<◌, ◌≤◌, true, ◌&&◌, ◌==◌, List, [], length, refl, sym, ap, ◌∙◌, subst, arith, inl, inr, slice_get, slice_index, get_or, Some}
 use Rattle.std.specs.Prelude.{pos}
-use Rattle.std.specs.List.{All}
-use Rattle.std.specs.declared.cmp.Ordering.{Ordering}
 use Rattle.std.specs.declared.cmp.Ordering.TheVariants.{Less, Greater}
 use Rattle.std.specs.Ordering.{ordering_reverse}
 use Rattle.std.proofs.lemmas.Bool.{cases_order, and_parts, and_from, eqb-true, eq-eqb}
@@ -16,7 +14,7 @@ use Rattle.net_trace.specs.declared.node.Node.{Node}
 use Rattle.net_trace.specs.declared.wiring.Vertex.{Vertex}
 use Rattle.net_trace.specs.Touching.{Cut, Nets, is_node, touches}
 use Rattle.net_trace.specs.Nets.{node_cmp, is_joined, is_link}
-use Rattle.net_trace.specs.Wirings.{corner, vertices_of, AreAllBanded, AreOrdered, IsVertexAt, IsKept, AreShared, IsSound, AreEdges, IsTraced, AreCorners}
+use Rattle.net_trace.specs.Wirings.{corner, vertices_of, AreAllBanded, AreOrdered, AreShared, IsSound, AreEdges, IsTraced, AreCorners}
 use Rattle.net_trace.proofs.Lists.{or_either}
 use Rattle.net_trace.proofs.VertexLists.{some_one, vertices_ordered}
 use Rattle.net_trace.proofs.TracedNets.{touch_linked}

@@ -1,12 +1,11 @@
 -- Linked nodes of a wire lie in strips of one value, where touching ones do.
-use Rattle.std.proofs.Common.{◌≡◌, ℕ, ◌<◌, ◌≤◌, Bool, true, false, ◌&&◌, ◌||◌, ◌==◌, List, [], length, refl, sym, ap, ◌∙◌, subst, arith, inl, inr, slice_get, get_or, Some}
+use Rattle.std.proofs.Common.{◌≡◌, ℕ, ◌<◌, Bool, true, ◌&&◌, ◌||◌, ◌==◌, List, length, sym, ap, ◌∙◌, subst, arith, inl, inr, slice_get, get_or, Some}
 use Rattle.std.specs.List.{position_or_len}
 use Rattle.std.proofs.lemmas.Bool.{cases_lt, and_parts, and_from, eqb-true}
 use Rattle.std.proofs.lemmas.List.Sums.{fails_before_first, passes_at_first}
 use Rattle.std.proofs.lemmas.Option.{slice_get_within, slice_get-get_or, get_or_from_slice_get}
 use Rattle.link_classes.specs.Linked.{Linked}
 use Rattle.link_classes.proofs.Chains.{linked_kept, linked_map, linked_touch}
-use Rattle.mask_region.specs.declared.strips.Strip.{Strip}
 use Rattle.mask_region.specs.Strips.{is_in_strip}
 use Rattle.net_trace.specs.declared.node.Node.{Node}
 use Rattle.net_trace.specs.declared.wiring.Vertex.{Vertex}
@@ -15,7 +14,7 @@ use Rattle.net_trace.specs.Nets.{node_at}
 use Rattle.net_trace.specs.Wirings.{is_at, corner, vertices_of, IsVertexAt, AreOrdered, IsKept, is_along_wire}
 use Rattle.net_trace.proofs.Lists.{or_first, not_both_ways}
 use Rattle.net_trace.proofs.VertexLists.{of_wire}
-use Rattle.net_trace.proofs.VertexFacts.{in_region, wire_has, vertex_node, node_vertex, one_vertex}
+use Rattle.net_trace.proofs.VertexFacts.{in_region, wire_has, node_vertex, one_vertex}
 use Rattle.net_trace.proofs.Rectangles.{rectangle_linked}
 
 abbrev pub index_of : List Vertex → Node → ℕ

@@ -1,5 +1,5 @@
 -- Nodes and the strips that have them.
-use Rattle.std.proofs.Common.{◌≡◌, ℕ, zero, suc, ◌+◌, ◌<◌, ◌≤◌, ◌⊎◌, Bool, true, false, ◌&&◌, ◌==◌, List, [], ◌∷◌, length, take, refl, sym, ap, ◌∙◌, subst, arith, inl, inr, slice_get, Some, None, Option}
+use Rattle.std.proofs.Common.{◌≡◌, ℕ, ◌+◌, true, ◌==◌, List, length, refl, sym, ap, ◌∙◌, arith, inl, inr, slice_get, Some, None, Option}
 use Rattle.std.proofs.lemmas.Bool.{cases_order, and_parts, and_from, eqb-true, eq-eqb}
 use Rattle.std.proofs.lemmas.Int.{ints, by_lt_z}
 use Rattle.std.proofs.lemmas.List.Folds.{Any-from_list_any, list_any-from_Any}
@@ -11,7 +11,7 @@ use Rattle.net_trace.specs.declared.node.Node.{Node}
 use Rattle.net_trace.specs.declared.wiring.Vertex.{Vertex}
 use Rattle.net_trace.specs.Touching.{Nets, is_in_wire, is_node}
 use Rattle.net_trace.specs.Wirings.{is_at, corner, vertices_of, start_of, IsVertexAt, IsBehind, AreOrdered}
-use Rattle.net_trace.proofs.VertexLists.{some_one, no_some, at_start, of_wire}
+use Rattle.net_trace.proofs.VertexLists.{at_start, of_wire}
 
 -- a region has a cell where one of its strips has it
 pub in_region : (r : List Strip) (k : ℕ) (s : Strip) (x y : ℤ) → slice_get r k ≡ Some s → is_in_strip s x y ≡ true → is_in r x y ≡ true

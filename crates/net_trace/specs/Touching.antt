@@ -1,5 +1,5 @@
 -- Nodes, and which of them touch.
-use Rattle.std.specs.Prelude.{◌≡◌, ℕ, ℤ, pos, ◌+ℤ◌, ◌==◌, ◌&&◌, ◌||◌, Bool, false, List, Option, None, Some, slice_get, zip, map, []}
+use Rattle.std.specs.Prelude.{ℕ, ℤ, pos, ◌+ℤ◌, ◌==◌, ◌&&◌, ◌||◌, Bool, false, List, Option, None, Some, slice_get, zip, map, []}
 use Rattle.std.specs.List.{list_any}
 use Rattle.std.specs.Ordering.{int_eq}
 use Rattle.layer_map.specs.Plan.{Plan}

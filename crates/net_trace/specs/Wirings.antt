@@ -1,5 +1,5 @@
 -- The strips of all wires in one list, and what the tracing keeps of them. No promise cites these words.
-use Rattle.std.specs.Prelude.{◌≡◌, ℕ, ◌+◌, ◌*◌, ◌<◌, ◌≤◌, ◌^◌, ◌==◌, ◌&&◌, ◌||◌, ◌⊎◌, ℤ, ◌<ℤ◌, int_lt, nat_lt, Bool, true, List, [], ◌∷◌, ◌++◌, length, map, zip, take, slice_get, slice_index, Some}
+use Rattle.std.specs.Prelude.{◌≡◌, ℕ, ◌+◌, ◌*◌, ◌<◌, ◌==◌, ◌&&◌, ◌||◌, ◌⊎◌, ℤ, int_lt, nat_lt, Bool, true, List, [], ◌∷◌, ◌++◌, length, map, zip, take, slice_get, slice_index, Some}
 use Rattle.std.specs.List.{All, AllZip}
 use Rattle.std.specs.Ordering.{int_eq}
 use Rattle.std.specs.declared.cmp.Ordering.TheVariants.{Less}

@@ -1,5 +1,5 @@
-use Rattle.std.proofs.Common.{ap, sym, ◌∙◌, arith}
-use Rattle.net_trace.proofs.Banding.{AreBandsHere, here_added, here_same, next_lower, next_upper, bands_none, bands_all}
+use Rattle.std.proofs.Common.{ap, sym, ◌∙◌}
+use Rattle.net_trace.proofs.Banding.{here_added, here_same, next_lower, next_upper, bands_all}
 use Rattle.net_trace.proofs.bands.bands.Goals.{then-is_below+in_ok-push, else-is_below}
 use Rattle.net_trace.proofs.bands.bands.Goals as goal
 

@@ -1,7 +1,5 @@
-use Rattle.std.proofs.Common.{◌≡◌, length, map, ap, sym, ◌∙◌, arith, take}
-use Rattle.std.proofs.lemmas.List.{take_more, take_all}
+use Rattle.std.proofs.Common.{◌∙◌}
 use Rattle.layer_map.specs.Views.{numbers_seen}
-use Rattle.net_trace.specs.Wirings.{cuts_with}
 use Rattle.net_trace.proofs.CutLists.{cuts_more, cuts_all}
 use Rattle.net_trace.proofs.cuts.cut_areas.Goals as goal
 

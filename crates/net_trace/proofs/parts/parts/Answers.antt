@@ -1,4 +1,4 @@
-use Rattle.std.proofs.Common.{◌*◌, refl, ap, sym, ◌∙◌, subst, arith, length, ◌≡◌}
+use Rattle.std.proofs.Common.{◌*◌, refl, subst, arith, length, ◌≡◌}
 use Rattle.net_trace.specs.Wirings.{AreParts}
 use Rattle.net_trace.proofs.Filling.{parts_none, filled_banded, filled_more}
 use Rattle.net_trace.proofs.parts.parts.Goals as goal

@@ -1,6 +1,6 @@
-use Rattle.std.proofs.Common.{◌≡◌, ◌<◌, ◌≤◌, length, ap, sym, ◌∙◌, arith, subst, slice_get, Some, refl}
-use Rattle.std.proofs.lemmas.Option.{slice_get-get_or, slice_get_read}
-use Rattle.net_trace.specs.Wirings.{vertices_of, AreOrdered, AreBands}
+use Rattle.std.proofs.Common.{length, sym, subst, refl}
+use Rattle.std.proofs.lemmas.Option.{slice_get_read}
+use Rattle.net_trace.specs.Wirings.{AreOrdered, AreBands}
 use Rattle.net_trace.proofs.VertexLists.{vertices_ordered}
 use Rattle.net_trace.proofs.Edging.{edges_start, edges_more, edges_done}
 use Rattle.net_trace.proofs.ties.edges.Goals as goal

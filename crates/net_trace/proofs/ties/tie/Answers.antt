@@ -1,10 +1,6 @@
-use Rattle.std.proofs.Common.{◌≡◌, ◌<◌, ◌≤◌, ◌&&◌, false, length, ap, sym, ◌∙◌, arith, rules, subst, slice_get, Some, refl}
-use Rattle.std.specs.Prelude.{nat_lt}
-use Rattle.std.proofs.lemmas.Option.{slice_get_read}
-use Rattle.mask_region.specs.Strips.{is_in}
-use Rattle.net_trace.specs.Wirings.{vertices_of, AreOrdered}
+use Rattle.std.proofs.Common.{◌≤◌, length, ap, ◌∙◌, arith, subst, refl}
 use Rattle.net_trace.proofs.VertexLists.{vertices_ordered}
-use Rattle.net_trace.proofs.Tying.{untied, no_wire, IsTying, tying_more_at, tying_less_at, strip_step, common_of, tied_all, IsCommon}
+use Rattle.net_trace.proofs.Tying.{untied, no_wire, IsTying, tying_more_at, tying_less_at, strip_step, common_of, tied_all}
 use Rattle.net_trace.proofs.Wires.{wire_at}
 use Rattle.net_trace.proofs.ties.tie.Goals.{in-Some-pair_at+in_ok-push, in_default-pair_at}
 use Rattle.net_trace.proofs.ties.tie.Goals as goal

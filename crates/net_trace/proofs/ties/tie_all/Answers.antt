@@ -1,6 +1,5 @@
-use Rattle.std.proofs.Common.{◌≡◌, ◌<◌, ◌≤◌, length, ap, sym, ◌∙◌, arith, rules, subst, slice_get, get_or, Some, refl}
-use Rattle.net_trace.specs.Wirings.{vertices_of, AreOrdered}
-use Rattle.net_trace.proofs.Tying.{all_start, all_tied, all_skipped, all_row, all_done, listed, tied_moved}
+use Rattle.std.proofs.Common.{length, ap, arith, get_or}
+use Rattle.net_trace.proofs.Tying.{all_tied, all_skipped, all_row, all_done, listed, tied_moved}
 use Rattle.net_trace.proofs.ties.tie_all.Goals.{then-first-second+in_ok-tie, else-first-second}
 use Rattle.net_trace.proofs.ties.tie_all.Goals as goal
 

@@ -1,9 +1,7 @@
-use Rattle.std.proofs.Common.{◌≡◌, ◌<◌, ◌≤◌, length, map, ap, sym, ◌∙◌, arith, subst, refl}
+use Rattle.std.proofs.Common.{◌≡◌, ◌<◌, ◌≤◌, length, map, ap, sym, ◌∙◌, arith, subst}
 use Rattle.std.specs.List.{All}
-use Rattle.link_classes.specs.Classes.{has_pair, AreClasses}
 use Rattle.net_trace.specs.Touching.{Nets}
 use Rattle.net_trace.specs.Nets.{IsNetCount, IsJoinedBy}
-use Rattle.net_trace.specs.Wirings.{AreEndsOf, AreNumbered, ArePicked, IsTraced}
 use Rattle.net_trace.proofs.TracedNets.{count_of, labels_below}
 use Rattle.net_trace.proofs.Making.{least_below, least_few, numbers_below, joined_made, joined_by, if_ok_as, ends_moved, classes_moved, numbered_moved, picked_moved}
 use Rattle.net_trace.proofs.traced.Traced.joined.Goals as goal

@@ -1,4 +1,4 @@
-use Rattle.std.proofs.Common.{◌≡◌, ◌<◌, ◌+◌, ◌*◌, length, ap, sym, ◌∙◌, arith, subst}
+use Rattle.std.proofs.Common.{◌<◌, length, ap, arith, subst}
 use Rattle.net_trace.specs.Touching.{Nets}
 use Rattle.net_trace.specs.Nets.{IsNetCount, IsRegionOf}
 use Rattle.net_trace.proofs.TracedNets.{count_of, region_place, region_read}

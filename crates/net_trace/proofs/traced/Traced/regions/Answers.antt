@@ -1,4 +1,4 @@
-use Rattle.std.proofs.Common.{◌≡◌, length, ap, sym, ◌∙◌, arith, subst}
+use Rattle.std.proofs.Common.{sym, subst}
 use Rattle.net_trace.specs.Touching.{Nets}
 use Rattle.net_trace.specs.Nets.{AreRegionsOf}
 use Rattle.net_trace.proofs.TracedNets.{regions_are}

@@ -14,4 +14,5 @@ pub mod Walked
 pub mod Judged
 pub mod OneAnswer
 pub mod SameFiles
+pub mod Positions
 pub mod Worked

@@ -16,7 +16,7 @@ use Rattle.cif_flatten.specs.declared.refusal.FlattenRefusal.TheVariants.{Undefi
 use Rattle.cif_flatten.specs.Flat.{Lists}
 use Rattle.cif_flatten.specs.Unfolding.{Placed, in_place, items_in, items_of, opened, opened_by, Unfolds, IsUnfolding, call_count, figure_weight, weight, calls_among, weight_among, Drawn, Marked, drawn_by, marked_by, drawn, marked}
 use Rattle.cif_flatten.specs.Faults.{undefined_by, undefined_among, undefined_in_symbols, undefined_calls, IsFirst, is_call_of, has_call, calls, CallsAlong, CallsThrough, most_calls, most_weight, most_fineness, corners, Reaching, reaching, IsInRange, fineness}
-use Rattle.cif_flatten.specs.Flattening.{HasFault, IsFlattened}
+use Rattle.cif_flatten.specs.Flattening.{HasFault, IsFlattened, IsFirstFault}
 
 -- ---- the other way round
 
@@ -314,3 +314,7 @@ same_file f g lists s h =
       draws = h.draws ∙ drawn_same h.placed u.other u.same;
       marks = h.marks ∙ marked_same h.placed u.other u.same;
     }
+
+-- Files that hold the same have the same first fault.
+pub first_fault_same : (f g : Contents) (r : FlattenRefusal) → IsSameFile f g → IsFirstFault f r → IsFirstFault g r
+first_fault_same f g r s h = record { fault = fault_same f g r s h.fault; first = λ other earlier has. h.first other earlier (fault_same g f other (file_back f g s) has) }

@@ -24,7 +24,7 @@ pub use calls::{UndefinedCall, undefined_call};
 pub use circles::recursive_symbol;
 pub use flat::{Draw, Flat, Mark};
 pub use flattening::flatten;
-pub use laws::one_flattening;
+pub use laws::{one_flattening, read_calls_are_apart};
 pub use refusal::FlattenRefusal;
 pub use sizes::{Size, unfolded_size};
 

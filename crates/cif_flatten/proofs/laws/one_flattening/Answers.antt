@@ -1,5 +1,5 @@
 use Rattle.cif_flatten.proofs.OneAnswer.{one_of_file, one_layout, never_both, one_fault}
-use Rattle.cif_flatten.proofs.SameFiles.{same_file}
+use Rattle.cif_flatten.proofs.SameFiles.{same_file, first_fault_same}
 use Rattle.cif_flatten.proofs.laws.one_flattening.Goals as goal
 
 pub returns-clause-one_unfolding : goal.returns-clause-one_unfolding
@@ -16,3 +16,6 @@ returns-clause-one_fault c = one_fault
 
 pub returns-clause-same_file : goal.returns-clause-same_file
 returns-clause-same_file c = same_file
+
+pub returns-clause-same_fault : goal.returns-clause-same_fault
+returns-clause-same_fault c = first_fault_same

@@ -1,3 +1,4 @@
 pub mod Touching
 pub mod Nets
 pub mod Wirings
+pub mod Same

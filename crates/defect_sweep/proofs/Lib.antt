@@ -1,0 +1,11 @@
+pub mod Holding
+pub mod Near
+pub mod Meeting
+pub mod Placing
+pub mod Reached
+pub mod Listing
+pub mod Spreading
+pub mod Refused
+pub mod OneCounting
+pub mod Fitting
+pub mod TracedCounts

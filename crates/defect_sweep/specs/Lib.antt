@@ -1,0 +1,4 @@
+pub mod Sides
+pub mod Counting
+pub mod Bridges
+pub mod Reaching

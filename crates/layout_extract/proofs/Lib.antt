@@ -1,0 +1,15 @@
+pub mod Places
+pub mod NetNumbers
+pub mod WireLists
+pub mod NearNodes
+pub mod BoundNodes
+pub mod TagLists
+pub mod PairLists
+pub mod LeastNames
+pub mod SpotLists
+pub mod Bridge
+pub mod CountLists
+pub mod NetBridge
+pub mod LayoutFacts
+pub mod MarkCounts
+pub mod SameLayouts

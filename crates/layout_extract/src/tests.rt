@@ -1,0 +1,89 @@
+//! Names of small layouts.
+
+use crate::{LayoutRefusal, Named, name_nets};
+use layer_map::LayerMap;
+use std::alloc::{AllocError, Global};
+use std::test::Fail;
+
+const MAP: &str = "wire poly CPG
+wire metal CMF
+cut CCP : poly metal
+label CMF metal
+label CPG poly metal
+high Vdd Vcc
+low GND Vss
+";
+
+/// The map of all rows.
+fn map(alloc: Global) -> Result<LayerMap, Fail> {
+    Ok(layer_map::read(alloc, MAP.as_bytes())?)
+}
+
+/// What naming the nets of this text gives.
+fn name(alloc: Global, text: &str) -> Result<Result<Named, LayoutRefusal>, Fail> {
+    let file = cif_reader::read(alloc, text.as_bytes())?;
+    let map = map(alloc)?;
+    Ok(name_nets(alloc, &file, &map))
+}
+
+/// The names of the nets, each with a blank behind it.
+fn names(alloc: Global, named: &Named) -> Result<Vec<u8>, AllocError> {
+    let mut text = Vec::new(alloc);
+    for name in named.names() {
+        text.extend_from_slice(name.as_bytes())?;
+        text.push(b' ')?;
+    }
+    Ok(text)
+}
+
+#[test]
+fn nets_are_joined_and_named(rt: HostRuntime) -> Result<(), Fail> {
+    let alloc = rt.alloc();
+    let rows: [(&str, &str, (u32, u32, u32)); 12] = [
+        // one name, two names of a supply, and names of both supplies
+        ("94 A 10 10 CMF;94 A 50 10 CMF;E", "A ", (2, 0, 0)),
+        ("94 Vdd 10 10 CMF;94 Vcc 50 10 CMF;E", "Vcc ", (2, 0, 0)),
+        ("94 Vss 10 10 CMF;94 GND 50 10 CMF;E", "GND ", (2, 0, 0)),
+        ("94 Vdd 10 10 CMF;94 GND 50 10 CMF;E", "Vdd GND ", (2, 0, 0)),
+        // the first of two names, and none
+        ("94 B 10 10 CMF;94 A 10 5 CMF;E", "A #1 ", (2, 0, 0)),
+        ("E", "#0 #1 ", (0, 0, 0)),
+        // the first wire of a list, of the map, and none
+        (
+            "L CPG;B 20 20 10 10;94 A 10 10 CPG;E",
+            "A #1 #2 ",
+            (1, 0, 0),
+        ),
+        ("L CPG;B 20 20 10 10;94 A 10 10;E", "A #1 #2 ", (1, 0, 0)),
+        (
+            "L CPG;B 20 20 10 10;94 A 10 10 CMF;E",
+            "#0 A #2 ",
+            (1, 0, 0),
+        ),
+        ("94 A 50 10 CPG;94 B 80 10;E", "#0 A ", (1, 1, 0)),
+        // labels of depth 1 and 2
+        ("DS 1;94 A 10 10 CMF;DF;C 1;E", "A #1 ", (1, 0, 0)),
+        (
+            "DS 1;94 A 10 10 CMF;DF;DS 2;C 1;DF;C 2;E",
+            "#0 #1 ",
+            (0, 0, 1),
+        ),
+    ];
+    for (labels, expected, tallies) in rows {
+        let mut text = String::from_str(alloc, "L CMF;B 20 20 10 10;B 20 20 50 10;")?;
+        text.push_str(labels)?;
+        let named = name(alloc, text.as_str())??;
+        let names = names(alloc, &named)?;
+        assert!(rt; names.as_slice() == expected.as_bytes(), "{}", labels);
+        assert_eq!(rt; named.tallies(), tallies, "{}", labels);
+    }
+    Ok(())
+}
+
+#[test]
+fn labels_of_two_pieces_are_refused(rt: HostRuntime) -> Result<(), Fail> {
+    let text = "L CMF;B 20 20 10 10;B 20 20 30 30;94 A 20 20 CMF;94 B 20 20;E";
+    let answer = name(rt.alloc(), text)?;
+    assert!(rt; matches!(answer, Err(LayoutRefusal::LabelAmbiguous(34))));
+    Ok(())
+}

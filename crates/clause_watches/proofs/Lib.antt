@@ -1,0 +1,4 @@
+mod Listings
+mod Fronts
+mod Visits
+mod Kept

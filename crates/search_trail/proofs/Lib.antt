@@ -1,0 +1,6 @@
+pub mod Members
+pub mod Table
+pub mod Growing
+pub mod Walks
+pub mod Teaches
+pub mod Jumps

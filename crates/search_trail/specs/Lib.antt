@@ -1,0 +1,4 @@
+pub mod Trails
+pub mod Placing
+pub mod Walking
+pub mod Learning

@@ -22,7 +22,7 @@ mod tags;
 
 pub use laws::one_naming;
 pub use named::Named;
-pub use naming::{name_layout, name_nets};
+pub use naming::name_nets;
 pub use refusal::LayoutRefusal;
 
 #[cfg(test)]

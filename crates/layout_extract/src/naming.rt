@@ -19,7 +19,11 @@ use std::alloc::Global;
 
 /// The named nets of a layout, as the definition `IsNamed` says. It is refused as `RefusesNaming` says: where there are
 /// over 8,192 pieces, and then where a label is ambiguous.
-pub fn name_layout(alloc: Global, map: &LayerMap, flat: &Flat) -> Result<Named, LayoutRefusal>
+pub(crate) fn name_layout(
+    alloc: Global,
+    map: &LayerMap,
+    flat: &Flat,
+) -> Result<Named, LayoutRefusal>
     requires { length flat.now.marks < 2 ^ 32 }
     ensures named { IfOk result (λ named. IsNamed map.now flat.now named) }
     ensures refused { (refusal : LayoutRefusal) → result ≡ Err refusal → RefusesNaming map.now flat.now refusal }

@@ -1,7 +1,7 @@
 -- Why files are refused, from what their bytes are.
-use Rattle.std.proofs.Common.{◌≡◌, ◌⊎◌, inl, inr, ℕ, List, Option, sym, ◌∙◌, ap, subst}
+use Rattle.std.proofs.Common.{◌≡◌, ◌⊎◌, inl, inr, ℕ, List, refl, sym, ◌∙◌, ap, subst}
 use Rattle.std.specs.Prelude.{◌≢◌}
-use Rattle.probe_io.specs.Files.{File, IsFileOver}
+use Rattle.probe_io.specs.Files.{IsFileOver}
 use Rattle.cif_reader.specs.declared.refusal.CifRefusal.{CifRefusal}
 use Rattle.cif_reader.specs.declared.refusal.CifRefusal.TheVariants.{CifTooLong, Syntax, NumberTooLarge, Unsupported, NotManhattan, NoLayer, TwiceDefined, ZeroScale, OffGrid, BadLabel, TooManyPoints, NoMemory as OutOfMemory}
 use Rattle.cif_reader.specs.Faults.{Refuses}
@@ -9,23 +9,30 @@ use Rattle.cif_reader.specs.File.{Contents}
 use Rattle.layer_map.specs.declared.refusal.MapRefusal.{MapRefusal}
 use Rattle.layer_map.specs.declared.refusal.MapRefusal.TheVariants.{MapTooLong, BadLine, UnknownWire, Unbounded, TwiceNamed, NoSupplyLine, TooMany, NoMemory as NoMapMemory}
 use Rattle.layer_map.specs.Faults.{Refuses as RefusesMap}
+use Rattle.layout_extract.specs.declared.refusal.LayoutRefusal.{LayoutRefusal}
+use Rattle.layout_extract.specs.declared.refusal.LayoutRefusal.TheVariants.{Flat, TooManyNets, LabelAmbiguous, NoMemory as NoLayoutMemory}
+use Rattle.layout_extract.specs.Layouts.{NamedNets, RefusesLayout}
+use Rattle.defect_sweep.specs.declared.refusal.SweepRefusal.{SweepRefusal}
+use Rattle.defect_sweep.specs.declared.refusal.SweepRefusal.TheVariants.{TooManyBridges, NoMemory as NoSweepMemory}
+use Rattle.net_trace.specs.Touching.{Nets}
+use Rattle.defect_sweep.specs.declared.sides.SideWeight.{SideWeight}
+use Rattle.defect_sweep.specs.Bridges.{HasManyBridges}
 use Rattle.carafe_core.specs.declared.status.Which.{Which}
 use Rattle.carafe_core.specs.declared.status.Which.TheVariants.{Map, Cif}
 use Rattle.carafe_core.specs.declared.status.Refusal.{Refusal}
 use Rattle.carafe_core.specs.declared.status.Status.{Status}
-use Rattle.carafe_core.specs.declared.status.Status.TheVariants.{Refused}
+use Rattle.carafe_core.specs.declared.status.Status.TheVariants.{Done, Refused, OpenFault, ReadFault, WriteFault, NoMemory}
 use Rattle.carafe_core.specs.Settings.{Settings, name_in}
-use Rattle.carafe_core.specs.OneWire.{Wire}
-use Rattle.carafe_core.specs.Causes.{longest, too_long, IsReached, IsMap, IsLayout, HasFile, HasOtherLayout, IsPlainFile}
+use Rattle.layer_map.specs.Plan.{Plan}
+use Rattle.carafe_core.specs.Causes.{longest, too_long, IsReached, IsMap, IsLayout, HasFile, HasNets}
 use Rattle.carafe_core.proofs.NeverTooLong.{never_too_long, map_never_too_long}
-use Rattle.carafe_core.proofs.SameFiles.{plain_same}
-use Rattle.carafe_core.specs.Answers.{Shown, IsFileFailure, map_refused_as, refused_as}
+use Rattle.carafe_core.specs.Answers.{Shown, Text, Count, IsUnwritten, IsFailure, IsOutcome, IsFileFailure, map_refused_as, refused_as, layout_refused_as, sweep_refused_as}
 
 -- a file that is longer than those that are read
 by_kind : (which : Which) (shelf : Shown) (settings : Settings) → IsReached which shelf.files settings → IsFileOver shelf.files (name_in settings which) (longest which) → IsFileFailure shelf (Refused (too_long which)) settings
 unfolding longest
 by_kind Map shelf settings reached over = over
-by_kind Cif shelf settings reached over = record { wire = reached.wire; wired = reached.has; long = over }
+by_kind Cif shelf settings reached over = record { plan = reached.plan; mapped = reached.has; long = over }
 
 pub long_failure : (which : Which) (shelf : Shown) (settings : Settings) (refusal : Refusal) → refusal ≡ too_long which → IsReached which shelf.files settings → IsFileOver shelf.files (name_in settings which) (longest which) → IsFileFailure shelf (Refused refusal) settings
 long_failure which shelf settings refusal is reached over = subst (λ r. IsFileFailure shelf (Refused r) settings) (sym is) (by_kind which shelf settings reached over)
@@ -45,34 +52,41 @@ pub map_failure : (shelf : Shown) (settings : Settings) (bytes : List ℕ) (faul
 map_failure shelf settings bytes fault status is text refuses = subst (λ s. IsFileFailure shelf s settings) (sym is) (by_map_fault shelf settings bytes fault text refuses)
 
 -- a layout that is refused
-by_fault : (shelf : Shown) (settings : Settings) (wire : Wire) (bytes : List ℕ) (fault : CifRefusal) → IsLayout shelf.files settings wire bytes → Refuses bytes fault → IsFileFailure shelf (refused_as fault) settings
-by_fault shelf settings wire bytes CifTooLong layout refuses = absurd (never_too_long bytes refuses)
-by_fault shelf settings wire bytes OutOfMemory layout refuses = tt
-by_fault shelf settings wire bytes (Syntax place) layout refuses = record { wire = wire; bytes = bytes; layout = layout; refuses = refuses }
-by_fault shelf settings wire bytes (NumberTooLarge place) layout refuses = record { wire = wire; bytes = bytes; layout = layout; refuses = refuses }
-by_fault shelf settings wire bytes (Unsupported place feature) layout refuses = record { wire = wire; bytes = bytes; layout = layout; refuses = refuses }
-by_fault shelf settings wire bytes (NotManhattan place) layout refuses = record { wire = wire; bytes = bytes; layout = layout; refuses = refuses }
-by_fault shelf settings wire bytes (NoLayer place) layout refuses = record { wire = wire; bytes = bytes; layout = layout; refuses = refuses }
-by_fault shelf settings wire bytes (TwiceDefined place) layout refuses = record { wire = wire; bytes = bytes; layout = layout; refuses = refuses }
-by_fault shelf settings wire bytes (ZeroScale place) layout refuses = record { wire = wire; bytes = bytes; layout = layout; refuses = refuses }
-by_fault shelf settings wire bytes (OffGrid place) layout refuses = record { wire = wire; bytes = bytes; layout = layout; refuses = refuses }
-by_fault shelf settings wire bytes (BadLabel place) layout refuses = record { wire = wire; bytes = bytes; layout = layout; refuses = refuses }
-by_fault shelf settings wire bytes (TooManyPoints place) layout refuses = record { wire = wire; bytes = bytes; layout = layout; refuses = refuses }
+by_fault : (shelf : Shown) (settings : Settings) (plan : Plan) (bytes : List ℕ) (fault : CifRefusal) → IsLayout shelf.files settings plan bytes → Refuses bytes fault → IsFileFailure shelf (refused_as fault) settings
+by_fault shelf settings plan bytes CifTooLong layout refuses = absurd (never_too_long bytes refuses)
+by_fault shelf settings plan bytes OutOfMemory layout refuses = tt
+by_fault shelf settings plan bytes (Syntax place) layout refuses = record { plan = plan; bytes = bytes; layout = layout; refuses = refuses }
+by_fault shelf settings plan bytes (NumberTooLarge place) layout refuses = record { plan = plan; bytes = bytes; layout = layout; refuses = refuses }
+by_fault shelf settings plan bytes (Unsupported place feature) layout refuses = record { plan = plan; bytes = bytes; layout = layout; refuses = refuses }
+by_fault shelf settings plan bytes (NotManhattan place) layout refuses = record { plan = plan; bytes = bytes; layout = layout; refuses = refuses }
+by_fault shelf settings plan bytes (NoLayer place) layout refuses = record { plan = plan; bytes = bytes; layout = layout; refuses = refuses }
+by_fault shelf settings plan bytes (TwiceDefined place) layout refuses = record { plan = plan; bytes = bytes; layout = layout; refuses = refuses }
+by_fault shelf settings plan bytes (ZeroScale place) layout refuses = record { plan = plan; bytes = bytes; layout = layout; refuses = refuses }
+by_fault shelf settings plan bytes (OffGrid place) layout refuses = record { plan = plan; bytes = bytes; layout = layout; refuses = refuses }
+by_fault shelf settings plan bytes (BadLabel place) layout refuses = record { plan = plan; bytes = bytes; layout = layout; refuses = refuses }
+by_fault shelf settings plan bytes (TooManyPoints place) layout refuses = record { plan = plan; bytes = bytes; layout = layout; refuses = refuses }
 
-pub fault_failure : (shelf : Shown) (settings : Settings) (wire : Wire) (bytes : List ℕ) (fault : CifRefusal) (status : Status) → status ≡ refused_as fault → IsLayout shelf.files settings wire bytes → (fault ≡ OutOfMemory) ⊎ Refuses bytes fault → IsFileFailure shelf status settings
-fault_failure shelf settings wire bytes fault status is layout (inl memory) = subst (λ s. IsFileFailure shelf s settings) (sym (is ∙ ap refused_as memory)) tt
-fault_failure shelf settings wire bytes fault status is layout (inr refuses) = subst (λ s. IsFileFailure shelf s settings) (sym is) (by_fault shelf settings wire bytes fault layout refuses)
+pub fault_failure : (shelf : Shown) (settings : Settings) (plan : Plan) (bytes : List ℕ) (fault : CifRefusal) (status : Status) → status ≡ refused_as fault → IsLayout shelf.files settings plan bytes → (fault ≡ OutOfMemory) ⊎ Refuses bytes fault → IsFileFailure shelf status settings
+fault_failure shelf settings plan bytes fault status is layout (inl memory) = subst (λ s. IsFileFailure shelf s settings) (sym (is ∙ ap refused_as memory)) tt
+fault_failure shelf settings plan bytes fault status is layout (inr refuses) = subst (λ s. IsFileFailure shelf s settings) (sym is) (by_fault shelf settings plan bytes fault layout refuses)
 
--- a layout that spells a file that is not plain
-pub other_layout : (files : Option (List File)) (settings : Settings) (wire : Wire) (file : Contents) → HasFile files settings wire file → (IsPlainFile wire.layer file → ⊥) → HasOtherLayout files settings
-other_layout files settings wire file has not_plain = record {
-  wire = wire;
-  bytes = has.bytes;
-  layout = has.layout;
-  file = file;
-  accepts = has.accepts;
-  other = λ other accepts plain. not_plain (plain_same wire.layer has.bytes other file accepts has.accepts plain);
-}
+-- a layout whose nets are not named
+by_layout : (shelf : Shown) (settings : Settings) (plan : Plan) (file : Contents) (refusal : LayoutRefusal) → HasFile shelf.files settings plan file → RefusesLayout file plan refusal → IsFileFailure shelf (layout_refused_as refusal) settings
+by_layout shelf settings plan file (Flat refusal) spelled refuses = record { plan = plan; file = file; spelled = spelled; refuses = refuses }
+by_layout shelf settings plan file TooManyNets spelled refuses = record { plan = plan; file = file; spelled = spelled; refuses = refuses }
+by_layout shelf settings plan file (LabelAmbiguous place) spelled refuses = record { plan = plan; file = file; spelled = spelled; refuses = refuses }
+by_layout shelf settings plan file NoLayoutMemory spelled refuses = tt
+
+pub layout_failure : (shelf : Shown) (settings : Settings) (plan : Plan) (file : Contents) (refusal : LayoutRefusal) (status : Status) → status ≡ layout_refused_as refusal → HasFile shelf.files settings plan file → RefusesLayout file plan refusal → IsFileFailure shelf status settings
+layout_failure shelf settings plan file refusal status is spelled refuses = subst (λ s. IsFileFailure shelf s settings) (sym is) (by_layout shelf settings plan file refusal spelled refuses)
+
+-- a layout whose bridges are not listed
+by_sweep : (shelf : Shown) (settings : Settings) (plan : Plan) (named : NamedNets) (refusal : SweepRefusal) → HasNets shelf.files settings plan named → (refusal ≡ TooManyBridges → HasManyBridges named.nets settings.sides) → IsFileFailure shelf (sweep_refused_as refusal) settings
+by_sweep shelf settings plan named TooManyBridges nets many = record { plan = plan; named = named; nets = nets; many = many refl }
+by_sweep shelf settings plan named NoSweepMemory nets many = tt
+
+pub sweep_failure : (shelf : Shown) (settings : Settings) (plan : Plan) (named : NamedNets) (refusal : SweepRefusal) (status : Status) → status ≡ sweep_refused_as refusal → HasNets shelf.files settings plan named → (refusal ≡ TooManyBridges → HasManyBridges named.nets settings.sides) → IsFileFailure shelf status settings
+sweep_failure shelf settings plan named refusal status is nets many = subst (λ s. IsFileFailure shelf s settings) (sym is) (by_sweep shelf settings plan named refusal nets many)
 
 -- the same of the same bytes
 pub by_bytes : {slice bytes : List ℕ} {fault : CifRefusal} → slice ≡ bytes → (fault ≡ OutOfMemory) ⊎ Refuses slice fault → (fault ≡ OutOfMemory) ⊎ Refuses bytes fault
@@ -81,3 +95,16 @@ by_bytes {fault = fault} same (inr refuses) = inr (subst (λ bs. Refuses bs faul
 
 pub map_by_bytes : {slice bytes : List ℕ} {fault : MapRefusal} → slice ≡ bytes → (fault ≢ NoMapMemory → RefusesMap slice fault) → fault ≢ NoMapMemory → RefusesMap bytes fault
 map_by_bytes {fault = fault} same refuses = subst (λ bs. fault ≢ NoMapMemory → RefusesMap bs fault) same refuses
+
+-- where there is a failure, nothing is written
+pub failed : (words : List (List ℕ)) (shelf : Shown) (out : Text) (faults : Count) (status : Status) → IsFailure words shelf status → IsUnwritten out → IsOutcome words shelf out faults status
+failed words shelf out faults Done failure unwritten = absurd failure
+failed words shelf out faults (Refused refusal) failure unwritten = record { failure = failure; unwritten = unwritten }
+failed words shelf out faults (OpenFault which) failure unwritten = record { failure = failure; unwritten = unwritten }
+failed words shelf out faults (ReadFault which) failure unwritten = record { failure = failure; unwritten = unwritten }
+failed words shelf out faults (WriteFault stream) failure unwritten = absurd failure
+failed words shelf out faults NoMemory failure unwritten = record { failure = failure; unwritten = unwritten }
+
+-- the bridges of the same nets, for the same sides
+pub many_named : {a b : Nets} {s t : List SideWeight} → a ≡ b → s ≡ t → HasManyBridges a s → HasManyBridges b t
+many_named nets sides many = subst (λ (p : Nets × List SideWeight). HasManyBridges p.0 p.1) (λ i. (nets i, sides i)) many

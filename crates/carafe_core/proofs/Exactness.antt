@@ -1,5 +1,5 @@
 -- Where a shelf tells its files, at most one refusal has its cause, and none has where there is a report.
-use Rattle.std.proofs.Common.{◌≡◌, ℕ, ◌<◌, ◌≤◌, List, [], ◌∷◌, length, Option, Some, ◌⊎◌, inl, inr, get_or, unwrap_or, refl, sym, ◌∙◌, ap, subst, arith}
+use Rattle.std.proofs.Common.{◌≡◌, ℕ, ◌<◌, ◌≤◌, List, [], length, Option, Some, ◌⊎◌, inl, inr, get_or, unwrap_or, refl, sym, ◌∙◌, ap, subst, arith}
 use Rattle.std.specs.Prelude.{IsSomeAnd}
 use Rattle.probe_io.specs.Files.{File, file_of, IsFile, IsFileOver, Lacks}
 use Rattle.cif_reader.specs.declared.refusal.CifRefusal.{CifRefusal}
@@ -7,33 +7,46 @@ use Rattle.cif_reader.specs.declared.refusal.CifRefusal.TheVariants.{CifTooLong,
 use Rattle.cif_reader.specs.Faults.{Refuses}
 use Rattle.cif_reader.specs.File.{Contents}
 use Rattle.cif_reader.specs.Reading.{Accepts}
-use Rattle.cif_reader.proofs.Answering.{one_refusal, never_both}
+use Rattle.cif_reader.specs.Same.{IsSameFile}
+use Rattle.cif_reader.proofs.Answering.{one_refusal, never_both, one_file}
 use Rattle.layer_map.specs.declared.refusal.MapRefusal.{MapRefusal}
 use Rattle.layer_map.specs.declared.refusal.MapRefusal.TheVariants.{MapTooLong, BadLine, UnknownWire, Unbounded, TwiceNamed, NoSupplyLine, TooMany, NoMemory as NoMapMemory}
-use Rattle.layer_map.specs.Truth.{Formula, on, neither, both, either}
-use Rattle.layer_map.specs.Plan.{Plan, Wire as PlanWire}
+use Rattle.layer_map.specs.Plan.{Plan}
 use Rattle.layer_map.specs.Faults.{Accepts as AcceptsMap, Refuses as RefusesMap}
 use Rattle.layer_map.proofs.Walk.{one_map, one_fault, not_both}
+use Rattle.layout_extract.specs.declared.refusal.LayoutRefusal.{LayoutRefusal}
+use Rattle.layout_extract.specs.declared.refusal.LayoutRefusal.TheVariants.{Flat, TooManyNets, LabelAmbiguous, NoMemory as NoLayoutMemory}
+use Rattle.layout_extract.specs.Layouts.{NamedNets, IsNamedFrom, RefusesLayout}
+use Rattle.defect_sweep.specs.declared.refusal.SweepRefusal.{SweepRefusal}
+use Rattle.defect_sweep.specs.declared.refusal.SweepRefusal.TheVariants.{TooManyBridges, NoMemory as NoSweepMemory}
+use Rattle.carafe_core.specs.declared.settings.WordRefusal.{WordRefusal}
 use Rattle.carafe_core.specs.declared.settings.WordRefusal.TheVariants.{Usage, BadSide}
 use Rattle.carafe_core.specs.declared.status.Which.{Which}
 use Rattle.carafe_core.specs.declared.status.Which.TheVariants.{Map, Cif}
 use Rattle.carafe_core.specs.declared.status.Refusal.{Refusal}
-use Rattle.carafe_core.specs.declared.status.Refusal.TheVariants.{Words, NotBuilt, Map as OfMap, Cif as OfCif}
+use Rattle.carafe_core.specs.declared.status.Refusal.TheVariants.{Words, Map as OfMap, Cif as OfCif, Layout as OfLayout, Sweep as OfSweep}
 use Rattle.carafe_core.specs.declared.status.Stream.TheVariants.{Out, Diag}
 use Rattle.carafe_core.specs.declared.status.Status.{Status}
 use Rattle.carafe_core.specs.declared.status.Status.TheVariants.{Done, Refused, OpenFault, ReadFault, WriteFault, NoMemory}
 use Rattle.carafe_core.specs.Answers.{Count, Text, Shown, IsFailure, IsAnswer, IsInterrupted, RefusesWhere, IsInOrder, IsFaultless, ReportsWhere}
-use Rattle.carafe_core.specs.Settings.{Settings, name_in, IsSettings, IsUsage, IsBadSide}
-use Rattle.carafe_core.specs.OneWire.{Wire, IsOneWire}
-use Rattle.carafe_core.specs.Causes.{longest, Cause, IsMapCause, IsCifCause, IsMap, HasPlan, HasWire, IsWired, HasFaultyMap, IsLayout, HasOtherMap, HasLongLayout, HasFaultyLayout, HasOtherLayout, IsPlainFile, IsReportOf, IsReportOn}
+use Rattle.defect_sweep.specs.Bridges.{HasManyBridges}
+use Rattle.carafe_core.specs.Sides.{SpellsSides}
+use Rattle.carafe_core.specs.Settings.{Settings, name_in, IsSettings, IsUsage, IsBadSide, IsWordCause}
+use Rattle.carafe_core.specs.Causes.{longest, Cause, IsMapCause, IsCifCause, IsLayoutCause, IsSweepCause, IsMap, HasPlan, HasFaultyMap, IsLayout, HasFile, HasLongLayout, HasFaultyLayout, HasFaultyNets, HasNets, HasBridges, IsReportOf}
+use Rattle.layout_extract.specs.Same.{AreSameNamed}
+use Rattle.layout_extract.proofs.SameLayouts.{one_reason as one_reason_of_nets, never_both_named, one_naming}
+use Rattle.defect_sweep.proofs.OneCounting.{many}
+use Rattle.defect_sweep.proofs.TracedCounts.{many_alike}
+use Rattle.carafe_core.proofs.SideLemmas.{one_word as one_list}
+use Rattle.cif_flatten.proofs.Positions.{calls_apart}
 
 -- words in order are no wrong number of words
 not_usage : {words : List (List ℕ)} {settings : Settings} → IsSettings words settings → IsUsage words → ⊥
 not_usage asked usage = usage _ _ _ asked.spelled
 
--- and their side is one
+-- and their sides are some
 not_bad_side : {words : List (List ℕ)} {settings : Settings} → IsSettings words settings → IsBadSide words → ⊥
-not_bad_side {settings = settings} asked bad = bad.no_side settings.side asked.in_range (ap (λ list. get_or list 3 []) (sym bad.spelled ∙ asked.spelled))
+not_bad_side {settings = settings} asked bad = bad.no_sides settings.sides (subst (λ word. SpellsSides word settings.sides) (ap (λ list. get_or list 3 []) (sym asked.spelled ∙ bad.spelled)) asked.sides_spelled)
 
 -- words spell one name of a map, and one of a layout
 same_map : {words : List (List ℕ)} {s t : Settings} → IsSettings words s → IsSettings words t → s.map ≡ t.map
@@ -63,37 +76,8 @@ one_map_length : {words : List (List ℕ)} {s t : Settings} (list : List File) (
 one_map_length {s = s} {t = t} list x a b long here = over_short (longest Map) (file_of list s.map) x (ap (λ n. file_of list n) (same_map a b) ∙ here.map_is) long here.short
 
 -- that says one plan
-one_plan : {words : List (List ℕ)} {s t : Settings} (list : List File) (p q : Plan) → IsSettings words s → IsSettings words t → HasPlan (Some list) s p → HasPlan (Some list) t q → p ≡ q
+pub one_plan : {words : List (List ℕ)} {s t : Settings} (list : List File) (p q : Plan) → IsSettings words s → IsSettings words t → HasPlan (Some list) s p → HasPlan (Some list) t q → p ≡ q
 one_plan list p q a b here there = one_map there.bytes p q (subst (λ bytes. AcceptsMap bytes p) (one_map_text list here.bytes there.bytes a b here.text there.text) here.accepts) there.accepts
-
--- of one wire
-layer_in : Formula → List ℕ
-layer_in (on name) = name
-layer_in (neither f) = []
-layer_in (both f g) = []
-layer_in (either f g) = []
-
-first_name : List PlanWire → List ℕ
-first_name [] = []
-first_name (w ∷ ws) = w.name
-
-first_layer : List PlanWire → List ℕ
-first_layer [] = []
-first_layer (w ∷ ws) = layer_in w.formula
-
-same_wires : (p : Plan) (w v : Wire) → IsOneWire p w → IsOneWire p v → w ≡ v
-unfolding layer_in first_name first_layer
-same_wires p w v here there =
-    let names : w.name ≡ v.name = ap first_name (sym here.wires ∙ there.wires) in
-    let layers : w.layer ≡ v.layer = ap first_layer (sym here.wires ∙ there.wires) in
-    λ i. record { name = names i; layer = layers i }
-
-pub one_wire : {words : List (List ℕ)} {s t : Settings} (list : List File) (w v : Wire) → IsSettings words s → IsSettings words t → HasWire (Some list) s w → HasWire (Some list) t v → w ≡ v
-one_wire list w v a b here there = same_wires there.plan w v (subst (λ p. IsOneWire p w) (one_plan list here.plan there.plan a b here.has there.has) here.one) there.one
-
--- a map has one wire, or other lines
-not_other : {words : List (List ℕ)} {s t : Settings} (list : List File) (w : Wire) → IsSettings words s → IsSettings words t → HasOtherMap (Some list) s → HasWire (Some list) t w → ⊥
-not_other list w a b other here = other.other w (subst (λ p. IsOneWire p w) (one_plan list here.plan other.plan b a here.has other.has) here.one)
 
 -- the refusal of a map is for its length or for its first fault
 data IsMapOneOf (list : List File) (s : Settings) (r : MapRefusal) : Type 0 where
@@ -127,18 +111,11 @@ map_one_reason list r q a b (map_fault faulty) (map_fault other) =
 -- ---- the layout
 
 -- a name has one layout
-pub one_text : {words : List (List ℕ)} {s t : Settings} {w v : Wire} (list : List File) (x y : List ℕ) → IsSettings words s → IsSettings words t → IsLayout (Some list) s w x → IsLayout (Some list) t v y → x ≡ y
+pub one_text : {words : List (List ℕ)} {s t : Settings} {p q : Plan} (list : List File) (x y : List ℕ) → IsSettings words s → IsSettings words t → IsLayout (Some list) s p x → IsLayout (Some list) t q y → x ≡ y
 one_text {s = s} {t = t} list x y a b here there = same_file list s.cif t.cif x y (same_cif a b) here.cif_is there.cif_is
 
-one_length : {words : List (List ℕ)} {s t : Settings} {w : Wire} (list : List File) (x : List ℕ) → IsSettings words s → IsSettings words t → HasLongLayout (Some list) s → IsLayout (Some list) t w x → ⊥
+one_length : {words : List (List ℕ)} {s t : Settings} {p : Plan} (list : List File) (x : List ℕ) → IsSettings words s → IsSettings words t → HasLongLayout (Some list) s → IsLayout (Some list) t p x → ⊥
 one_length {s = s} {t = t} list x a b long here = over_short (longest Cif) (file_of list s.cif) x (ap (λ n. file_of list n) (same_cif a b) ∙ here.cif_is) long.long here.short
-
--- a layout is plain, or it is not
-one_layout : {words : List (List ℕ)} {s t : Settings} (list : List File) (text : List ℕ) → IsSettings words s → IsSettings words t → HasOtherLayout (Some list) s → IsReportOn (Some list) t text → ⊥
-one_layout list text a b other report =
-    let spelled = report.layout.spelled in
-    other.other report.file (subst (λ bytes. Accepts bytes report.file) (one_text list spelled.bytes other.bytes b a spelled.layout other.layout) spelled.accepts)
-    (subst (λ w. IsPlainFile w.layer report.file) (one_wire list report.wire other.wire b a spelled.layout.wired other.layout.wired) report.layout.plain)
 
 -- the refusal of a layout is for its length or for its first fault
 data IsOneOf (list : List File) (s : Settings) (r : CifRefusal) : Type 0 where
@@ -159,13 +136,18 @@ one_of list s (OffGrid place) c = for_fault c
 one_of list s (BadLabel place) c = for_fault c
 one_of list s (TooManyPoints place) c = for_fault c
 
--- where the layout is refused the map has one wire
-wire_of : (list : List File) (s : Settings) (r : CifRefusal) → IsOneOf list s r → IsWired (Some list) s
-wire_of list s r (for_length is long) = record { wire = long.wire; has = long.wired }
-wire_of list s r (for_fault faulty) = record { wire = faulty.wire; has = faulty.layout.wired }
+-- where the layout is refused the map says a plan
+cif_plan : (list : List File) (s : Settings) (r : CifRefusal) → IsOneOf list s r → Plan
+cif_plan list s r (for_length is long) = long.plan
+cif_plan list s r (for_fault faulty) = faulty.plan
+
+cif_mapped : (list : List File) (s : Settings) (r : CifRefusal) (one : IsOneOf list s r) → HasPlan (Some list) s (cif_plan list s r one)
+unfolding cif_plan
+cif_mapped list s r (for_length is long) = long.mapped
+cif_mapped list s r (for_fault faulty) = faulty.layout.mapped
 
 -- a layout that spells a file is not refused
-not_refused : {words : List (List ℕ)} {s t : Settings} {w : Wire} (list : List File) (x : List ℕ) (file : Contents) (r : CifRefusal) → IsSettings words s → IsSettings words t → IsLayout (Some list) s w x → Accepts x file → IsOneOf list t r → ⊥
+not_refused : {words : List (List ℕ)} {s t : Settings} {p : Plan} (list : List File) (x : List ℕ) (file : Contents) (r : CifRefusal) → IsSettings words s → IsSettings words t → IsLayout (Some list) s p x → Accepts x file → IsOneOf list t r → ⊥
 not_refused list x file r a b here accepts (for_length is long) = one_length list x b a long here
 not_refused list x file r a b here accepts (for_fault faulty) =
     never_both faulty.bytes file r (subst (λ bytes. Accepts bytes file) (one_text list x faulty.bytes a b here faulty.layout) accepts) faulty.refuses
@@ -178,61 +160,129 @@ one_reason list r q a b (for_fault faulty) (for_length is long) = absurd (one_le
 one_reason list r q a b (for_fault faulty) (for_fault other) =
     one_refusal other.bytes r q (subst (λ bytes. Refuses bytes r) (one_text list faulty.bytes other.bytes a b faulty.layout other.layout) faulty.refuses) other.refuses
 
+-- ---- the layout's nets
+
+-- two files that the layout spells are the same
+one_layout : {words : List (List ℕ)} {s t : Settings} {p q : Plan} (list : List File) (f g : Contents) → IsSettings words s → IsSettings words t → HasFile (Some list) s p f → HasFile (Some list) t q g → IsSameFile f g
+one_layout list f g a b here there = one_file there.bytes f g (subst (λ bytes. Accepts bytes f) (one_text list here.bytes there.bytes a b here.layout there.layout) here.accepts) there.accepts
+
+-- under one plan
+same_plan : {words : List (List ℕ)} {s t : Settings} {p q : Plan} {f g : Contents} (list : List File) → IsSettings words s → IsSettings words t → HasFile (Some list) s p f → HasFile (Some list) t q g → p ≡ q
+same_plan {p = p} {q = q} list a b here there = one_plan list p q a b here.layout.mapped there.layout.mapped
+
+-- the refusal of a layout's nets is no want of memory
+faulty_nets : (list : List File) (s : Settings) (r : LayoutRefusal) → IsLayoutCause r (Some list) s → HasFaultyNets (Some list) s r
+faulty_nets list s (Flat refusal) c = c
+faulty_nets list s TooManyNets c = c
+faulty_nets list s (LabelAmbiguous place) c = c
+faulty_nets list s NoLayoutMemory c = absurd c
+
+some_refusal : (list : List File) (s : Settings) (r : LayoutRefusal) → IsLayoutCause r (Some list) s → r ≡ NoLayoutMemory → ⊥
+some_refusal list s r c is = subst (λ q. IsLayoutCause q (Some list) s) is c
+
+-- nets that are named are not refused
+nets_not_refused : {words : List (List ℕ)} {s t : Settings} (list : List File) (p : Plan) (named : NamedNets) (r : LayoutRefusal) → IsSettings words s → IsSettings words t → HasNets (Some list) s p named → IsLayoutCause r (Some list) t → ⊥
+nets_not_refused {t = t} list p named r a b here cause =
+    let faulty = faulty_nets list t r cause in
+    never_both_named faulty.file here.file p named r (some_refusal list t r cause) (one_layout list faulty.file here.file b a faulty.spelled here.spelled)
+    (subst (λ plan. RefusesLayout faulty.file plan r) (same_plan list b a faulty.spelled here.spelled) faulty.refuses) here.are_named
+
+-- nets are refused for one reason
+nets_one_reason : {words : List (List ℕ)} {s t : Settings} (list : List File) (r q : LayoutRefusal) → IsSettings words s → IsSettings words t → IsLayoutCause r (Some list) s → IsLayoutCause q (Some list) t → r ≡ q
+nets_one_reason {s = s} {t = t} list r q a b here there =
+    let first = faulty_nets list s r here in
+    let second = faulty_nets list t q there in
+    one_reason_of_nets first.file second.file second.plan r q (calls_apart second.spelled.bytes second.file second.spelled.accepts) (some_refusal list s r here) (some_refusal list t q there) (one_layout list first.file second.file a b first.spelled second.spelled)
+    (subst (λ plan. RefusesLayout first.file plan r) (same_plan list a b first.spelled second.spelled) first.refuses) second.refuses
+
+-- the nets of the files have the same names and numbers
+pub one_named : {words : List (List ℕ)} {s t : Settings} (list : List File) (p q : Plan) (named others : NamedNets) → IsSettings words s → IsSettings words t → HasNets (Some list) s p named → HasNets (Some list) t q others → AreSameNamed named others
+one_named list p q named others a b here there =
+    one_naming here.file there.file q named others (one_layout list here.file there.file a b here.spelled there.spelled)
+    (subst (λ plan. IsNamedFrom here.file plan named) (same_plan list a b here.spelled there.spelled) here.are_named) there.are_named
+
+-- ---- all causes
+
+-- where the bridges are too many, the nets are named
+bridges_of : (list : List File) (s : Settings) (r : SweepRefusal) → IsSweepCause r (Some list) s → HasBridges (Some list) s
+bridges_of list s TooManyBridges c = c
+bridges_of list s NoSweepMemory c = absurd c
+
+sweep_one_reason : (list : List File) (s t : Settings) (r q : SweepRefusal) → IsSweepCause r (Some list) s → IsSweepCause q (Some list) t → r ≡ q
+sweep_one_reason list s t TooManyBridges TooManyBridges c d = refl
+sweep_one_reason list s t TooManyBridges NoSweepMemory c d = absurd d
+sweep_one_reason list s t NoSweepMemory q c d = absurd c
+
+not_words : {words : List (List ℕ)} {s : Settings} (w : WordRefusal) → IsSettings words s → IsWordCause w words → ⊥
+not_words Usage asked c = not_usage asked c
+not_words BadSide asked c = not_bad_side asked c
+
+one_word : (words : List (List ℕ)) (w v : WordRefusal) → IsWordCause w words → IsWordCause v words → w ≡ v
+one_word words Usage Usage c d = refl
+one_word words Usage BadSide c d = absurd (c d.map d.cif d.word d.spelled)
+one_word words BadSide Usage c d = absurd (d c.map c.cif c.word c.spelled)
+one_word words BadSide BadSide c d = refl
+
 -- the causes of refusals exclude each other
 pub one_cause : (words : List (List ℕ)) (list : List File) (r q : Refusal) → Cause r words (Some list) → Cause q words (Some list) → r ≡ q
-one_cause words list (Words Usage) (Words Usage) c d = refl
-one_cause words list (Words Usage) (Words BadSide) c d = absurd (c d.map d.cif d.side d.spelled)
-one_cause words list (Words BadSide) (Words Usage) c d = absurd (d c.map c.cif c.side c.spelled)
-one_cause words list (Words BadSide) (Words BadSide) c d = refl
-one_cause words list (Words Usage) (NotBuilt which) c d = absurd (not_usage d.asked c)
-one_cause words list (Words BadSide) (NotBuilt which) c d = absurd (not_bad_side d.asked c)
-one_cause words list (NotBuilt which) (Words Usage) c d = absurd (not_usage c.asked d)
-one_cause words list (NotBuilt which) (Words BadSide) c d = absurd (not_bad_side c.asked d)
-one_cause words list (Words Usage) (OfMap q) c d = absurd (not_usage d.asked c)
-one_cause words list (Words BadSide) (OfMap q) c d = absurd (not_bad_side d.asked c)
-one_cause words list (OfMap r) (Words Usage) c d = absurd (not_usage c.asked d)
-one_cause words list (OfMap r) (Words BadSide) c d = absurd (not_bad_side c.asked d)
+one_cause words list (Words w) (Words v) c d = ap (λ x. Words x) (one_word words w v c d)
+one_cause words list (Words w) (OfMap q) c d = absurd (not_words w d.asked c)
+one_cause words list (Words w) (OfCif q) c d = absurd (not_words w d.asked c)
+one_cause words list (Words w) (OfLayout q) c d = absurd (not_words w d.asked c)
+one_cause words list (Words w) (OfSweep q) c d = absurd (not_words w d.asked c)
+one_cause words list (OfMap r) (Words v) c d = absurd (not_words v c.asked d)
+one_cause words list (OfCif r) (Words v) c d = absurd (not_words v c.asked d)
+one_cause words list (OfLayout r) (Words v) c d = absurd (not_words v c.asked d)
+one_cause words list (OfSweep r) (Words v) c d = absurd (not_words v c.asked d)
 one_cause words list (OfMap r) (OfMap q) c d = ap (λ x. OfMap x) (map_one_reason list r q c.asked d.asked (map_one_of list c.settings r c.holds) (map_one_of list d.settings q d.holds))
-one_cause words list (OfMap r) (NotBuilt Map) c d = absurd (map_not_refused list d.holds.plan r d.asked c.asked d.holds.has (map_one_of list c.settings r c.holds))
-one_cause words list (NotBuilt Map) (OfMap q) c d = absurd (map_not_refused list c.holds.plan q c.asked d.asked c.holds.has (map_one_of list d.settings q d.holds))
-one_cause words list (OfMap r) (NotBuilt Cif) c d = absurd (map_not_refused list d.holds.layout.wired.plan r d.asked c.asked d.holds.layout.wired.has (map_one_of list c.settings r c.holds))
-one_cause words list (NotBuilt Cif) (OfMap q) c d = absurd (map_not_refused list c.holds.layout.wired.plan q c.asked d.asked c.holds.layout.wired.has (map_one_of list d.settings q d.holds))
-one_cause words list (OfMap r) (OfCif q) c d =
-    let wired = wire_of list d.settings q (one_of list d.settings q d.holds) in
-    absurd (map_not_refused list wired.has.plan r d.asked c.asked wired.has.has (map_one_of list c.settings r c.holds))
-one_cause words list (OfCif r) (OfMap q) c d =
-    let wired = wire_of list c.settings r (one_of list c.settings r c.holds) in
-    absurd (map_not_refused list wired.has.plan q c.asked d.asked wired.has.has (map_one_of list d.settings q d.holds))
-one_cause words list (Words Usage) (OfCif q) c d = absurd (not_usage d.asked c)
-one_cause words list (Words BadSide) (OfCif q) c d = absurd (not_bad_side d.asked c)
-one_cause words list (OfCif r) (Words Usage) c d = absurd (not_usage c.asked d)
-one_cause words list (OfCif r) (Words BadSide) c d = absurd (not_bad_side c.asked d)
+one_cause words list (OfMap r) (OfCif q) c d = absurd (map_not_refused list _ r d.asked c.asked (cif_mapped list d.settings q (one_of list d.settings q d.holds)) (map_one_of list c.settings r c.holds))
+one_cause words list (OfCif r) (OfMap q) c d = absurd (map_not_refused list _ q c.asked d.asked (cif_mapped list c.settings r (one_of list c.settings r c.holds)) (map_one_of list d.settings q d.holds))
+one_cause words list (OfMap r) (OfLayout q) c d = absurd (map_not_refused list _ r d.asked c.asked (faulty_nets list d.settings q d.holds).spelled.layout.mapped (map_one_of list c.settings r c.holds))
+one_cause words list (OfLayout r) (OfMap q) c d = absurd (map_not_refused list _ q c.asked d.asked (faulty_nets list c.settings r c.holds).spelled.layout.mapped (map_one_of list d.settings q d.holds))
+one_cause words list (OfMap r) (OfSweep q) c d = absurd (map_not_refused list _ r d.asked c.asked (bridges_of list d.settings q d.holds).nets.spelled.layout.mapped (map_one_of list c.settings r c.holds))
+one_cause words list (OfSweep r) (OfMap q) c d = absurd (map_not_refused list _ q c.asked d.asked (bridges_of list c.settings r c.holds).nets.spelled.layout.mapped (map_one_of list d.settings q d.holds))
 one_cause words list (OfCif r) (OfCif q) c d = ap (λ x. OfCif x) (one_reason list r q c.asked d.asked (one_of list c.settings r c.holds) (one_of list d.settings q d.holds))
-one_cause words list (OfCif r) (NotBuilt Map) c d =
-    let wired = wire_of list c.settings r (one_of list c.settings r c.holds) in
-    absurd (not_other list wired.wire d.asked c.asked d.holds wired.has)
-one_cause words list (NotBuilt Map) (OfCif q) c d =
-    let wired = wire_of list d.settings q (one_of list d.settings q d.holds) in
-    absurd (not_other list wired.wire c.asked d.asked c.holds wired.has)
-one_cause words list (OfCif r) (NotBuilt Cif) c d = absurd (not_refused list d.holds.bytes d.holds.file r d.asked c.asked d.holds.layout d.holds.accepts (one_of list c.settings r c.holds))
-one_cause words list (NotBuilt Cif) (OfCif q) c d = absurd (not_refused list c.holds.bytes c.holds.file q c.asked d.asked c.holds.layout c.holds.accepts (one_of list d.settings q d.holds))
-one_cause words list (NotBuilt Map) (NotBuilt Map) c d = refl
-one_cause words list (NotBuilt Map) (NotBuilt Cif) c d = absurd (not_other list d.holds.wire c.asked d.asked c.holds d.holds.layout.wired)
-one_cause words list (NotBuilt Cif) (NotBuilt Map) c d = absurd (not_other list c.holds.wire d.asked c.asked d.holds c.holds.layout.wired)
-one_cause words list (NotBuilt Cif) (NotBuilt Cif) c d = refl
+one_cause words list (OfCif r) (OfLayout q) c d =
+    let spelled = (faulty_nets list d.settings q d.holds).spelled in
+    absurd (not_refused list spelled.bytes _ r d.asked c.asked spelled.layout spelled.accepts (one_of list c.settings r c.holds))
+one_cause words list (OfLayout r) (OfCif q) c d =
+    let spelled = (faulty_nets list c.settings r c.holds).spelled in
+    absurd (not_refused list spelled.bytes _ q c.asked d.asked spelled.layout spelled.accepts (one_of list d.settings q d.holds))
+one_cause words list (OfCif r) (OfSweep q) c d =
+    let spelled = (bridges_of list d.settings q d.holds).nets.spelled in
+    absurd (not_refused list spelled.bytes _ r d.asked c.asked spelled.layout spelled.accepts (one_of list c.settings r c.holds))
+one_cause words list (OfSweep r) (OfCif q) c d =
+    let spelled = (bridges_of list c.settings r c.holds).nets.spelled in
+    absurd (not_refused list spelled.bytes _ q c.asked d.asked spelled.layout spelled.accepts (one_of list d.settings q d.holds))
+one_cause words list (OfLayout r) (OfLayout q) c d = ap (λ x. OfLayout x) (nets_one_reason list r q c.asked d.asked c.holds d.holds)
+one_cause words list (OfLayout r) (OfSweep q) c d =
+    let bridges = bridges_of list d.settings q d.holds in
+    absurd (nets_not_refused list bridges.plan bridges.named r d.asked c.asked bridges.nets c.holds)
+one_cause words list (OfSweep r) (OfLayout q) c d =
+    let bridges = bridges_of list c.settings r c.holds in
+    absurd (nets_not_refused list bridges.plan bridges.named q c.asked d.asked bridges.nets d.holds)
+one_cause words list (OfSweep r) (OfSweep q) c d = ap (λ x. OfSweep x) (sweep_one_reason list c.settings d.settings r q c.holds d.holds)
+
+-- the words spell one list of sides
+pub same_sides : {words : List (List ℕ)} {s t : Settings} → IsSettings words s → IsSettings words t → s.sides ≡ t.sides
+same_sides {s = s} {t = t} a b = one_list b.word s.sides t.sides (subst (λ word. SpellsSides word s.sides) (ap (λ list. get_or list 3 []) (sym a.spelled ∙ b.spelled)) a.sides_spelled) b.sides_spelled
 
 -- where there is a report there is no cause of a refusal
 pub no_cause : (words : List (List ℕ)) (list : List File) (text : List ℕ) (r : Refusal) → IsReportOf words (Some list) text → Cause r words (Some list) → ⊥
-no_cause words list text (Words Usage) report c = not_usage report.asked c
-no_cause words list text (Words BadSide) report c = not_bad_side report.asked c
-no_cause words list text (NotBuilt Map) report c = not_other list report.holds.wire c.asked report.asked c.holds report.holds.layout.spelled.layout.wired
-no_cause words list text (NotBuilt Cif) report c = one_layout list text c.asked report.asked c.holds report.holds
-no_cause words list text (OfMap r) report c =
-    let wired = report.holds.layout.spelled.layout.wired in
-    map_not_refused list wired.plan r report.asked c.asked wired.has (map_one_of list c.settings r c.holds)
+no_cause words list text (Words w) report c = not_words w report.asked c
+no_cause words list text (OfMap r) report c = map_not_refused list _ r report.asked c.asked report.holds.nets.spelled.layout.mapped (map_one_of list c.settings r c.holds)
 no_cause words list text (OfCif r) report c =
-    let spelled = report.holds.layout.spelled in
-    not_refused list spelled.bytes report.holds.file r report.asked c.asked spelled.layout spelled.accepts (one_of list c.settings r c.holds)
+    let spelled = report.holds.nets.spelled in
+    not_refused list spelled.bytes _ r report.asked c.asked spelled.layout spelled.accepts (one_of list c.settings r c.holds)
+no_cause words list text (OfLayout r) report c = nets_not_refused list report.holds.plan report.holds.named r report.asked c.asked report.holds.nets c.holds
+no_cause words list text (OfSweep r) report c =
+    let bridges = bridges_of list c.settings r c.holds in
+    let alike = one_named list bridges.plan report.holds.plan bridges.named report.holds.named c.asked report.asked bridges.nets report.holds.nets in
+    let ranking = report.holds.report.ranking in
+    let too_many = many report.holds.named.nets report.settings.sides ranking.counts ranking.counted
+    (subst (λ sides. HasManyBridges report.holds.named.nets sides) (same_sides c.asked report.asked) (many_alike bridges.named.nets report.holds.named.nets c.settings.sides alike.nets bridges.many)) in
+    let few = ranking.few in
+    omega (arith, too_many, few)
 
 -- ---- what the answer of the top call says where the files are told
 
@@ -241,7 +291,8 @@ failure_cause : (words : List (List ℕ)) (shelf : Shown) (q : Refusal) → IsFa
 failure_cause words shelf (Words refusal) failure = failure
 failure_cause words shelf (OfMap refusal) failure = record { settings = failure.settings; asked = failure.asked; holds = failure.holds }
 failure_cause words shelf (OfCif refusal) failure = record { settings = failure.settings; asked = failure.asked; holds = failure.holds }
-failure_cause words shelf (NotBuilt which) failure = record { settings = failure.settings; asked = failure.asked; holds = failure.holds }
+failure_cause words shelf (OfLayout refusal) failure = record { settings = failure.settings; asked = failure.asked; holds = failure.holds }
+failure_cause words shelf (OfSweep refusal) failure = record { settings = failure.settings; asked = failure.asked; holds = failure.holds }
 
 told_refusal : (words : List (List ℕ)) (list : List File) (starts reads : Count) (out diag : Text) (m n : Count) (status : Status) (r : Refusal)
     → IsAnswer words (record { files = Some list; starts = starts; reads = reads }) out diag m n status → Cause r words (Some list) → (status ≡ Refused r) ⊎ IsInterrupted status

@@ -1,13 +1,9 @@
 pub mod WordLemmas
-pub mod NetLemmas
 pub mod PairLemmas
-pub mod OrderLemmas
-pub mod LineLemmas
+pub mod SideLemmas
 pub mod CauseFacts
-pub mod DrawingFacts
-pub mod RangeFacts
-pub mod Exactness
-pub mod SameFiles
 pub mod NeverTooLong
-pub mod OneOrder
+pub mod LineLemmas
+pub mod Exactness
 pub mod OneReport
+pub mod Reported

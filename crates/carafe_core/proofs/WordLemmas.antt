@@ -1,4 +1,4 @@
--- Lists of words, and the words that are a side.
+-- Lists of words, and the words that are a number.
 use Rattle.std.proofs.Common.{◌≡◌, ◌≢◌, ℕ, ◌<◌, ◌≤◌, List, [], ◌∷◌, length, get_or, refl, ◌∙◌, arith, Option, Some, Result, Ok, true, not, nat_eq}
 use Rattle.std.specs.Result.{result_ok}
 use Rattle.std.specs.Cmp.Lexicographic.{pointwise, other_text}

@@ -11,26 +11,31 @@ use Rattle.cif_reader.specs.declared.refusal.Feature.TheVariants.{Round, DefDele
 use Rattle.layer_map.specs.declared.refusal.MapRefusal.{MapRefusal}
 use Rattle.layer_map.specs.declared.refusal.MapRefusal.TheVariants.{MapTooLong, BadLine, UnknownWire, Unbounded, TwiceNamed, NoSupplyLine, TooMany, NoMemory as NoMapMemory}
 use Rattle.layer_map.specs.declared.refusal.Side.TheVariants.{High, Low}
+use Rattle.cif_flatten.specs.declared.refusal.FlattenRefusal.{FlattenRefusal}
+use Rattle.cif_flatten.specs.declared.refusal.FlattenRefusal.TheVariants.{Undefined, Recursive, TooManyCalls, TooManyEdges, OutOfRange, TooFine, NoMemory as NoFlatMemory}
+use Rattle.layout_extract.specs.declared.refusal.LayoutRefusal.{LayoutRefusal}
+use Rattle.layout_extract.specs.declared.refusal.LayoutRefusal.TheVariants.{Flat, TooManyNets, LabelAmbiguous, NoMemory as NoLayoutMemory}
+use Rattle.defect_sweep.specs.declared.refusal.SweepRefusal.{SweepRefusal}
+use Rattle.defect_sweep.specs.declared.refusal.SweepRefusal.TheVariants.{TooManyBridges, NoMemory as NoSweepMemory}
 use Rattle.carafe_core.specs.declared.settings.WordRefusal.TheVariants.{Usage, BadSide}
 use Rattle.carafe_core.specs.declared.status.Which.{Which}
 use Rattle.carafe_core.specs.declared.status.Which.TheVariants.{Map, Cif}
 use Rattle.carafe_core.specs.declared.status.Stream.TheVariants.{Out, Diag}
 use Rattle.carafe_core.specs.declared.status.Refusal.{Refusal}
-use Rattle.carafe_core.specs.declared.status.Refusal.TheVariants.{Words, NotBuilt, Map as OfMap, Cif as OfCif}
+use Rattle.carafe_core.specs.declared.status.Refusal.TheVariants.{Words, Map as OfMap, Cif as OfCif, Layout as OfLayout, Sweep as OfSweep}
 use Rattle.carafe_core.specs.declared.status.Status.{Status}
 use Rattle.carafe_core.specs.declared.status.Status.TheVariants.{Done, Refused, OpenFault, ReadFault, WriteFault, NoMemory}
-use Rattle.carafe_core.specs.declared.layout.Layout.{Layout}
-use Rattle.carafe_core.specs.Report.{IsReport}
 use Rattle.carafe_core.specs.Settings.{Settings, name_in, ForSettings, IsWordCause}
-use Rattle.carafe_core.specs.Causes.{IsReportOf, Cause, IsNotBuilt, IsMapCause, IsCifCause, IsReached}
+use Rattle.carafe_core.specs.Causes.{IsReportOf, Cause, IsMapCause, IsCifCause, IsLayoutCause, IsSweepCause, IsReached}
 
 -- the exit status of the program
 abbrev pub exit_of : Status → ℕ
 exit_of Done = 0
 exit_of (Refused (Words refusal)) = 3
-exit_of (Refused (NotBuilt which)) = 2
 exit_of (Refused (OfMap refusal)) = 2
 exit_of (Refused (OfCif refusal)) = 2
+exit_of (Refused (OfLayout refusal)) = 2
+exit_of (Refused (OfSweep refusal)) = 2
 exit_of (OpenFault which) = 4
 exit_of (ReadFault which) = 4
 exit_of (WriteFault stream) = 5
@@ -72,15 +77,41 @@ map_line (NoSupplyLine Low) = codes "carafe: NoSupplyLine low\n"
 map_line (TooMany line) = place_line (codes "TooMany") line
 map_line NoMapMemory = codes "carafe: NoMemory\n"
 
+-- a call at a place that names no symbol
+abbrev pub undefined_line : ℕ → ℕ → List ℕ
+undefined_line place symbol = concat (codes "carafe: Undefined " ∷ decimal place ∷ codes " " ∷ decimal symbol ∷ codes "\n" ∷ [])
+
+-- the line of a layout that is not unfolded
+abbrev pub flat_line : FlattenRefusal → List ℕ
+flat_line (Undefined place symbol) = undefined_line place symbol
+flat_line (Recursive symbol) = place_line (codes "Recursive") symbol
+flat_line TooManyCalls = codes "carafe: TooManyCalls\n"
+flat_line TooManyEdges = codes "carafe: TooManyEdges\n"
+flat_line (OutOfRange place) = place_line (codes "OutOfRange") place
+flat_line TooFine = codes "carafe: TooFine\n"
+flat_line NoFlatMemory = codes "carafe: NoMemory\n"
+
+-- the line of a layout whose nets are not named
+abbrev pub layout_line : LayoutRefusal → List ℕ
+layout_line (Flat refusal) = flat_line refusal
+layout_line TooManyNets = codes "carafe: TooManyNets\n"
+layout_line (LabelAmbiguous place) = place_line (codes "LabelAmbiguous") place
+layout_line NoLayoutMemory = codes "carafe: NoMemory\n"
+
+-- the line of a layout with too many bridges
+abbrev pub sweep_line : SweepRefusal → List ℕ
+sweep_line TooManyBridges = codes "carafe: TooManyBridges\n"
+sweep_line NoSweepMemory = codes "carafe: NoMemory\n"
+
 -- the line on the diagnostics stream
 abbrev pub line_of : Status → List ℕ
 line_of Done = []
 line_of (Refused (Words Usage)) = codes "carafe: Usage\n"
 line_of (Refused (Words BadSide)) = codes "carafe: BadSide\n"
-line_of (Refused (NotBuilt Map)) = codes "carafe: NotBuilt map\n"
-line_of (Refused (NotBuilt Cif)) = codes "carafe: NotBuilt cif\n"
 line_of (Refused (OfMap refusal)) = map_line refusal
 line_of (Refused (OfCif refusal)) = cif_line refusal
+line_of (Refused (OfLayout refusal)) = layout_line refusal
+line_of (Refused (OfSweep refusal)) = sweep_line refusal
 line_of (OpenFault Map) = codes "carafe: OpenFault map\n"
 line_of (OpenFault Cif) = codes "carafe: OpenFault cif\n"
 line_of (ReadFault Map) = codes "carafe: ReadFault map\n"
@@ -114,6 +145,18 @@ map_refused_as (Unbounded line) = Refused (OfMap (Unbounded line))
 map_refused_as (TwiceNamed line) = Refused (OfMap (TwiceNamed line))
 map_refused_as (NoSupplyLine side) = Refused (OfMap (NoSupplyLine side))
 map_refused_as (TooMany line) = Refused (OfMap (TooMany line))
+
+-- the status of a layout whose nets are not named
+abbrev pub layout_refused_as : LayoutRefusal → Status
+layout_refused_as NoLayoutMemory = NoMemory
+layout_refused_as (Flat refusal) = Refused (OfLayout (Flat refusal))
+layout_refused_as TooManyNets = Refused (OfLayout TooManyNets)
+layout_refused_as (LabelAmbiguous place) = Refused (OfLayout (LabelAmbiguous place))
+
+-- the status of a layout whose bridges are not listed
+abbrev pub sweep_refused_as : SweepRefusal → Status
+sweep_refused_as NoSweepMemory = NoMemory
+sweep_refused_as TooManyBridges = Refused (OfSweep TooManyBridges)
 
 -- a count of faults, before the call and after it
 pub record Count : Type 0 where
@@ -168,52 +211,31 @@ pub record IsReadFault (shelf : Shown) (which : Which) (settings : Settings) : T
   pub reached : IsReached which shelf.files settings
   pub failed : HasRisen shelf.reads
 
--- why the files that the settings name give no layout
+-- why there is no report on the files that the settings name
 abbrev pub IsFileFailure : Shown → Status → Settings → Type 0
 IsFileFailure shelf Done settings = ⊥
 IsFileFailure shelf (Refused (Words refusal)) settings = ⊥
-IsFileFailure shelf (Refused (NotBuilt which)) settings = IsNotBuilt which shelf.files settings
 IsFileFailure shelf (Refused (OfMap refusal)) settings = IsMapCause refusal shelf.files settings
 IsFileFailure shelf (Refused (OfCif refusal)) settings = IsCifCause refusal shelf.files settings
+IsFileFailure shelf (Refused (OfLayout refusal)) settings = IsLayoutCause refusal shelf.files settings
+IsFileFailure shelf (Refused (OfSweep refusal)) settings = IsSweepCause refusal shelf.files settings
 IsFileFailure shelf (OpenFault which) settings = IsOpenFault shelf which settings
 IsFileFailure shelf (ReadFault which) settings = IsReadFault shelf which settings
 IsFileFailure shelf (WriteFault stream) settings = ⊥
 IsFileFailure shelf NoMemory settings = Unit {0}
 
--- why there is no layout to report on
+-- why there is no report
 abbrev pub IsFailure : List (List ℕ) → Shown → Status → Type 0
 IsFailure words shelf Done = ⊥
 IsFailure words shelf (Refused (Words refusal)) = IsWordCause refusal words
-IsFailure words shelf (Refused (NotBuilt which)) = ForSettings words (λ settings. IsFileFailure shelf (Refused (NotBuilt which)) settings)
 IsFailure words shelf (Refused (OfMap refusal)) = ForSettings words (λ settings. IsFileFailure shelf (Refused (OfMap refusal)) settings)
 IsFailure words shelf (Refused (OfCif refusal)) = ForSettings words (λ settings. IsFileFailure shelf (Refused (OfCif refusal)) settings)
+IsFailure words shelf (Refused (OfLayout refusal)) = ForSettings words (λ settings. IsFileFailure shelf (Refused (OfLayout refusal)) settings)
+IsFailure words shelf (Refused (OfSweep refusal)) = ForSettings words (λ settings. IsFileFailure shelf (Refused (OfSweep refusal)) settings)
 IsFailure words shelf (OpenFault which) = ForSettings words (λ settings. IsFileFailure shelf (OpenFault which) settings)
 IsFailure words shelf (ReadFault which) = ForSettings words (λ settings. IsFileFailure shelf (ReadFault which) settings)
 IsFailure words shelf (WriteFault stream) = ⊥
 IsFailure words shelf NoMemory = Unit {0}
-
--- the whole report on a layout was written
-pub record IsWritten (layout : Layout) (out : Text) : Type 0 where
-  pub report_text : List ℕ
-  pub report : IsReport layout.side layout.wire layout.boxes.items layout.marks.items report_text
-  pub written : IsAppended out report_text
-
--- the report sink failed in this call, and a front of the report on a layout was written
-pub record IsWrittenInPart (layout : Layout) (out : Text) (faults : Count) : Type 0 where
-  pub report_text : List ℕ
-  pub report : IsReport layout.side layout.wire layout.boxes.items layout.marks.items report_text
-  pub written : IsFrontAppended out report_text
-  pub failed : HasRisen faults
-
--- how the writing of a report on a layout ends
-abbrev pub IsWriting : Layout → Text → Count → Status → Type 0
-IsWriting layout out faults Done = IsWritten layout out
-IsWriting layout out faults (Refused refusal) = ⊥
-IsWriting layout out faults (OpenFault which) = ⊥
-IsWriting layout out faults (ReadFault which) = ⊥
-IsWriting layout out faults (WriteFault Out) = IsWrittenInPart layout out faults
-IsWriting layout out faults (WriteFault Diag) = ⊥
-IsWriting layout out faults NoMemory = IsUnwritten out
 
 -- the whole report was written
 pub record IsReported (words : List (List ℕ)) (shelf : Shown) (out : Text) : Type 0 where

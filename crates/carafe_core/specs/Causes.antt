@@ -1,6 +1,6 @@
 -- What a report is made of, and why a call is refused. What is said here of a file is said where the shelf tells its
 -- files.
-use Rattle.std.specs.Prelude.{◌≡◌, ℕ, ◌≤◌, List, true, Option, length}
+use Rattle.std.specs.Prelude.{ℕ, ◌≤◌, List, Option, length}
 use Rattle.probe_io.specs.Files.{File, IsFile, IsFileOver}
 use Rattle.cif_reader.specs.declared.refusal.CifRefusal.{CifRefusal}
 use Rattle.cif_reader.specs.declared.refusal.CifRefusal.TheVariants.{CifTooLong, Syntax, NumberTooLarge, Unsupported, NotManhattan, NoLayer, TwiceDefined, ZeroScale, OffGrid, BadLabel, TooManyPoints, NoMemory}
@@ -11,15 +11,17 @@ use Rattle.layer_map.specs.declared.refusal.MapRefusal.{MapRefusal}
 use Rattle.layer_map.specs.declared.refusal.MapRefusal.TheVariants.{MapTooLong, BadLine, UnknownWire, Unbounded, TwiceNamed, NoSupplyLine, TooMany, NoMemory as NoMapMemory}
 use Rattle.layer_map.specs.Plan.{Plan}
 use Rattle.layer_map.specs.Faults.{Accepts as AcceptsMap, Refuses as RefusesMap}
+use Rattle.layout_extract.specs.declared.refusal.LayoutRefusal.{LayoutRefusal}
+use Rattle.layout_extract.specs.declared.refusal.LayoutRefusal.TheVariants.{Flat, TooManyNets, LabelAmbiguous, NoMemory as NoLayoutMemory}
+use Rattle.layout_extract.specs.Layouts.{NamedNets, IsNamedFrom, RefusesLayout}
+use Rattle.defect_sweep.specs.declared.refusal.SweepRefusal.{SweepRefusal}
+use Rattle.defect_sweep.specs.declared.refusal.SweepRefusal.TheVariants.{TooManyBridges, NoMemory as NoSweepMemory}
+use Rattle.defect_sweep.specs.Bridges.{HasManyBridges}
 use Rattle.carafe_core.specs.declared.status.Which.{Which}
 use Rattle.carafe_core.specs.declared.status.Which.TheVariants.{Map, Cif}
 use Rattle.carafe_core.specs.declared.status.Refusal.{Refusal}
-use Rattle.carafe_core.specs.declared.status.Refusal.TheVariants.{Words, NotBuilt, Map as OfMap, Cif as OfCif}
+use Rattle.carafe_core.specs.declared.status.Refusal.TheVariants.{Words, Map as OfMap, Cif as OfCif, Layout as OfLayout, Sweep as OfSweep}
 use Rattle.carafe_core.specs.Settings.{Settings, ForSettings, IsWordCause}
-use Rattle.carafe_core.specs.declared.layout.Layout.{Layout}
-use Rattle.carafe_core.specs.Drawing.{boxes_of, marks_of, are_simple}
-use Rattle.carafe_core.specs.OneWire.{Wire, IsOneWire}
-use Rattle.carafe_core.specs.Nets.{IsPlain}
 use Rattle.carafe_core.specs.Report.{IsReport}
 
 -- the most bytes of a file
@@ -45,23 +47,11 @@ pub record HasPlan (files : Option (List File)) (settings : Settings) (plan : Pl
   pub text : IsMap files settings bytes
   pub accepts : AcceptsMap bytes plan
 
--- the map has this wire alone
-pub record HasWire (files : Option (List File)) (settings : Settings) (wire : Wire) : Type 0 where
-  pub plan : Plan
-  pub has : HasPlan files settings plan
-  pub one : IsOneWire plan wire
-
 -- the map is refused for this fault, the first of its text
 pub record HasFaultyMap (files : Option (List File)) (settings : Settings) (fault : MapRefusal) : Type 0 where
   pub bytes : List ℕ
   pub text : IsMap files settings bytes
   pub refuses : RefusesMap bytes fault
-
--- the map has other lines than those of one wire
-pub record HasOtherMap (files : Option (List File)) (settings : Settings) : Type 0 where
-  pub plan : Plan
-  pub has : HasPlan files settings plan
-  pub other : (wire : Wire) → IsOneWire plan wire → ⊥
 
 -- what each refusal of the map says of it
 abbrev pub IsMapCause : MapRefusal → Option (List File) → Settings → Type 0
@@ -74,84 +64,34 @@ IsMapCause (TwiceNamed line) files settings = HasFaultyMap files settings (Twice
 IsMapCause (NoSupplyLine side) files settings = HasFaultyMap files settings (NoSupplyLine side)
 IsMapCause (TooMany line) files settings = HasFaultyMap files settings (TooMany line)
 
--- ---- the layout
+-- ---- the layout's text
 
--- The layout is one text that is not too long, and the map has this wire alone.
-pub record IsLayout (files : Option (List File)) (settings : Settings) (wire : Wire) (bytes : List ℕ) : Type 0 where
-  pub wired : HasWire files settings wire
+-- The layout is one text that is not too long, and the map says this plan.
+pub record IsLayout (files : Option (List File)) (settings : Settings) (plan : Plan) (bytes : List ℕ) : Type 0 where
+  pub mapped : HasPlan files settings plan
   pub cif_is : IsFile files settings.cif bytes
   pub short : length bytes ≤ longest Cif
 
 -- and it spells this file
-pub record HasFile (files : Option (List File)) (settings : Settings) (wire : Wire) (file : Contents) : Type 0 where
+pub record HasFile (files : Option (List File)) (settings : Settings) (plan : Plan) (file : Contents) : Type 0 where
   pub bytes : List ℕ
-  pub layout : IsLayout files settings wire bytes
+  pub layout : IsLayout files settings plan bytes
   pub accepts : Accepts bytes file
-
--- Nothing is called, only boxes are drawn on the layer, and the boxes and labels are plain.
-pub record IsPlainFile (layer : List ℕ) (file : Contents) : Type 0 where
-  pub simple : are_simple layer file.top ≡ true
-  pub plain : IsPlain (boxes_of layer file.top) (marks_of file.top)
-
--- the layout spells this file, which is plain
-pub record HasPlainFile (files : Option (List File)) (settings : Settings) (wire : Wire) (file : Contents) : Type 0 where
-  pub spelled : HasFile files settings wire file
-  pub plain : IsPlainFile wire.layer file
-
--- the boxes and labels are those of the file
-pub record IsDrawnFrom (layer : List ℕ) (file : Contents) (layout : Layout) : Type 0 where
-  pub boxes_are : layout.boxes.items ≡ boxes_of layer file.top
-  pub marks_are : layout.marks.items ≡ marks_of file.top
-  pub plain : IsPlainFile layer file
-
--- the layout is that of the files that the settings name
-pub record HasDrawn (files : Option (List File)) (settings : Settings) (layout : Layout) : Type 0 where
-  pub wire : Wire
-  pub file : Contents
-  pub spelled : HasFile files settings wire file
-  pub drawn : IsDrawnFrom wire.layer file layout
-  pub wire_is : layout.wire ≡ wire.name
-  pub side_is : layout.side ≡ settings.side
-
--- the text is the report on the files that the settings name
-pub record IsReportOn (files : Option (List File)) (settings : Settings) (text : List ℕ) : Type 0 where
-  pub wire : Wire
-  pub file : Contents
-  pub layout : HasPlainFile files settings wire file
-  pub report : IsReport settings.side wire.name (boxes_of wire.layer file.top) (marks_of file.top) text
-
--- the text is the report that the words ask for
-abbrev pub IsReportOf : List (List ℕ) → Option (List File) → List ℕ → Type 0
-IsReportOf words files text = ForSettings words (λ settings. IsReportOn files settings text)
 
 -- the layout has too many bytes
 pub record HasLongLayout (files : Option (List File)) (settings : Settings) : Type 0 where
-  pub wire : Wire
-  pub wired : HasWire files settings wire
+  pub plan : Plan
+  pub mapped : HasPlan files settings plan
   pub long : IsFileOver files settings.cif (longest Cif)
 
 -- the layout is refused for this fault, the first of its text
 pub record HasFaultyLayout (files : Option (List File)) (settings : Settings) (fault : CifRefusal) : Type 0 where
-  pub wire : Wire
+  pub plan : Plan
   pub bytes : List ℕ
-  pub layout : IsLayout files settings wire bytes
+  pub layout : IsLayout files settings plan bytes
   pub refuses : Refuses bytes fault
 
--- the layout spells files, none of which is plain
-pub record HasOtherLayout (files : Option (List File)) (settings : Settings) : Type 0 where
-  pub wire : Wire
-  pub bytes : List ℕ
-  pub layout : IsLayout files settings wire bytes
-  pub file : Contents
-  pub accepts : Accepts bytes file
-  pub other : (file : Contents) → Accepts bytes file → IsPlainFile wire.layer file → ⊥
-
--- a file is of a form that is not read yet, and those that are read before it are not
-abbrev pub IsNotBuilt : Which → Option (List File) → Settings → Type 0
-IsNotBuilt Map files settings = HasOtherMap files settings
-IsNotBuilt Cif files settings = HasOtherLayout files settings
-
--- what each refusal of the layout says of it
+-- what each refusal of the layout's text says of it
 abbrev pub IsCifCause : CifRefusal → Option (List File) → Settings → Type 0
 IsCifCause CifTooLong files settings = HasLongLayout files settings
 IsCifCause NoMemory files settings = ⊥
@@ -166,19 +106,70 @@ IsCifCause (OffGrid place) files settings = HasFaultyLayout files settings (OffG
 IsCifCause (BadLabel place) files settings = HasFaultyLayout files settings (BadLabel place)
 IsCifCause (TooManyPoints place) files settings = HasFaultyLayout files settings (TooManyPoints place)
 
--- the cause of each refusal, the causes of all earlier ones being absent
+-- ---- the layout's nets
+
+-- The layout is not unfolded, or its nets are not named, for this reason, the first that stands.
+pub record HasFaultyNets (files : Option (List File)) (settings : Settings) (refusal : LayoutRefusal) : Type 0 where
+  pub plan : Plan
+  pub file : Contents
+  pub spelled : HasFile files settings plan file
+  pub refuses : RefusesLayout file plan refusal
+
+-- what each refusal of the layout's nets says of it
+abbrev pub IsLayoutCause : LayoutRefusal → Option (List File) → Settings → Type 0
+IsLayoutCause (Flat refusal) files settings = HasFaultyNets files settings (Flat refusal)
+IsLayoutCause TooManyNets files settings = HasFaultyNets files settings TooManyNets
+IsLayoutCause (LabelAmbiguous place) files settings = HasFaultyNets files settings (LabelAmbiguous place)
+IsLayoutCause NoLayoutMemory files settings = ⊥
+
+-- the layout has these nets, with their names
+pub record HasNets (files : Option (List File)) (settings : Settings) (plan : Plan) (named : NamedNets) : Type 0 where
+  pub file : Contents
+  pub spelled : HasFile files settings plan file
+  pub are_named : IsNamedFrom file plan named
+
+-- ---- the bridges
+
+-- too many pairs of the layout's nets are met
+pub record HasBridges (files : Option (List File)) (settings : Settings) : Type 0 where
+  pub plan : Plan
+  pub named : NamedNets
+  pub nets : HasNets files settings plan named
+  pub many : HasManyBridges named.nets settings.sides
+
+-- what each refusal of the counts says of them
+abbrev pub IsSweepCause : SweepRefusal → Option (List File) → Settings → Type 0
+IsSweepCause TooManyBridges files settings = HasBridges files settings
+IsSweepCause NoSweepMemory files settings = ⊥
+
+-- the text is the report on the files that the settings name
+pub record IsReportOn (files : Option (List File)) (settings : Settings) (text : List ℕ) : Type 0 where
+  pub plan : Plan
+  pub named : NamedNets
+  pub nets : HasNets files settings plan named
+  pub report : IsReport settings.sides plan named text
+
+-- the text is the report that the words ask for
+abbrev pub IsReportOf : List (List ℕ) → Option (List File) → List ℕ → Type 0
+IsReportOf words files text = ForSettings words (λ settings. IsReportOn files settings text)
+
+-- ---- the first cause
+
+-- What each refusal says of words and files, the causes of all earlier ones being absent: of the words first, then of the
+-- map, of the layout's text, of its nets, and last of their bridges.
 abbrev pub Cause : Refusal → List (List ℕ) → Option (List File) → Type 0
 Cause (Words refusal) words files = IsWordCause refusal words
-Cause (NotBuilt which) words files = ForSettings words (λ settings. IsNotBuilt which files settings)
 Cause (OfMap refusal) words files = ForSettings words (λ settings. IsMapCause refusal files settings)
 Cause (OfCif refusal) words files = ForSettings words (λ settings. IsCifCause refusal files settings)
+Cause (OfLayout refusal) words files = ForSettings words (λ settings. IsLayoutCause refusal files settings)
+Cause (OfSweep refusal) words files = ForSettings words (λ settings. IsSweepCause refusal files settings)
 
--- the map has one wire
-pub record IsWired (files : Option (List File)) (settings : Settings) : Type 0 where
-  pub wire : Wire
-  pub has : HasWire files settings wire
+-- the map says something
+pub record IsMapped (files : Option (List File)) (settings : Settings) : Type 0 where
+  pub plan : Plan
+  pub has : HasPlan files settings plan
 
 -- no refusal stands before this file is read
 abbrev pub IsReached : Which → Option (List File) → Settings → Type 0
 IsReached Map files settings = Unit {0}
-IsReached Cif files settings = IsWired files settings
+IsReached Cif files settings = IsMapped files settings

@@ -1,9 +1,6 @@
+pub mod Sides
 pub mod Settings
-pub mod Spans
-pub mod Nets
-pub mod OneWire
-pub mod Drawing
-pub mod Ranking
 pub mod Report
 pub mod Causes
 pub mod Answers
+pub mod Subject

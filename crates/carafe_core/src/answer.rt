@@ -1,49 +1,14 @@
 //! The top call.
 
 ghost use Rattle.std.specs.Prelude.{◌≡◌, ℕ, ◌≤◌};
-ghost use Rattle.carafe_core.specs.Nets.{IsPlain};
-ghost use Rattle.carafe_core.specs.Answers.{count, text, shown, IsWriting, IsOutcome, IsAnswer, RefusesWhere, ReportsWhere};
+ghost use Rattle.carafe_core.specs.Answers.{count, text, shown, IsOutcome, IsAnswer, RefusesWhere, ReportsWhere};
 
-use crate::layout::{Layout, read_layout};
-use crate::nets::{net_names, numbered};
-use crate::ranking::ranked_bridges;
 use crate::report::put_report;
+use crate::settings::read_words;
 use crate::status::{Status, Stream};
+use crate::subject::read_subject;
 use probe_io::{Name, Shelf, Sink};
 use std::alloc::Global;
-
-/// Writes the report on a plain layout.
-fn write_report<K: Sink>(alloc: Global, layout: Layout, out: &mut K) -> Status
-    requires some { 1 ≤ layout.side }
-    requires small { layout.side ≤ 32768 }
-    requires plain { IsPlain layout.boxes.items layout.marks.items }
-    ensures { IsWriting layout (text (K.written out.old) (K.written out.new)) (count (K.faults out.old) (K.faults out.new)) result }
-{
-    let Layout {
-        side,
-        wire,
-        boxes,
-        marks,
-    } = layout;
-    let nets = numbered(boxes);
-    let Ok(names) = net_names(alloc, nets.as_slice(), marks.as_slice()) else {
-        return Status::NoMemory;
-    };
-    let Ok(ranked) = ranked_bridges(alloc, 2 * side, nets.as_slice()) else {
-        return Status::NoMemory;
-    };
-    match put_report(
-        out,
-        side,
-        &wire,
-        names.as_slice(),
-        marks.len(),
-        ranked.as_slice(),
-    ) {
-        Ok(()) => Status::Done,
-        Err(_) => Status::WriteFault(Stream::Out),
-    }
-}
 
 /// Reads what the words name and writes the report that they ask for.
 fn report<H: Shelf, K: Sink>(alloc: Global, words: &[Name], shelf: &mut H, out: &mut K) -> Status
@@ -51,12 +16,19 @@ fn report<H: Shelf, K: Sink>(alloc: Global, words: &[Name], shelf: &mut H, out: 
         (H.read_faults shelf.old) (H.read_faults shelf.new)) (text (K.written out.old) (K.written out.new))
         (count (K.faults out.old) (K.faults out.new)) result }
 {
-    match read_layout(alloc, words, shelf) {
-        Ok(layout) => write_report(alloc, layout, out),
-        Err(status) => status,
+    let settings = match read_words(alloc, words) {
+        Ok(settings) => settings,
+        Err(status) => return status,
+    };
+    let subject = match read_subject(alloc, &settings, shelf) {
+        Ok(subject) => subject,
+        Err(status) => return status,
+    };
+    match put_report(out, settings.sides.as_slice(), &subject) {
+        Ok(()) => Status::Done,
+        Err(_) => Status::WriteFault(Stream::Out),
     }
 }
-
 /// Does what the words ask for and says how that ended.
 pub fn carafe<H: Shelf, K: Sink, E: Sink>(
     alloc: Global,

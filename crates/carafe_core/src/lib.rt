@@ -6,22 +6,21 @@
 //! should, unless a device fails or no memory is found. `specs/Answers.antt` says so status by status. Words and files
 //! have one report or one refusal at most: the law `one_answer`.
 //!
-//! So far there is one command, `bridges MAP CIF SIDE`. It reads every map and every layout, and reports on maps of one
-//! wire and on plain layouts, in which each box of the wire's layer is a net. The program `carafe_cli` stands on this
-//! crate.
+//! So far there is one command, `bridges MAP CIF SIDES`, for any layer map and any layout: the pairs of nets that a square
+//! defect can short, with exact counts, the likeliest first. The program `carafe_cli` stands on this crate.
 #![tactic(auto)]
 
 mod answer;
+mod files;
 mod laws;
-mod layout;
-mod nets;
-mod ranking;
 mod report;
 mod settings;
+mod sides;
 mod status;
+mod subject;
 
 pub use answer::carafe;
-pub use laws::one_answer;
+pub use laws::{one_answer, one_list_of_sides};
 pub use settings::WordRefusal;
 pub use status::{Refusal, Status, Stream, Which};
 

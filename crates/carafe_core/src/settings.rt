@@ -1,31 +1,33 @@
 //! The words of a call, read into settings.
 
-ghost use Rattle.std.specs.Prelude.{◌≡◌, ℕ, IfOk, IfErr, IfSome, IfNone};
-ghost use Rattle.std.specs.Fmt.{decimal};
-ghost use Rattle.carafe_core.specs.Settings.{IsSide, IsSettings, IsWordCause, settings_of};
+ghost use Rattle.std.specs.Prelude.{◌≡◌, IfOk, IfErr};
+ghost use Rattle.carafe_core.specs.Settings.{IsSettings, settings_of};
+ghost use Rattle.carafe_core.specs.Answers.{Shown, IsFailure};
 
-use crate::status::Which;
-use itoa::Buffer;
+use crate::sides::read_sides;
+use crate::status::{Refusal, Status, Which};
+use defect_sweep::SideWeight;
 use probe_io::Name;
+use std::alloc::Global;
 
 /// Why words are refused.
 #[derive(Debug, Clone, Copy, PartialEq, Eq)]
 pub enum WordRefusal {
     /// The first word is no command, or the command has another number of words.
     Usage,
-    /// SIDE is no plain decimal from 1 to 32,768.
+    /// SIDES spells no sides, as `SpellsSides` defines it.
     BadSide,
 }
 
 /// What the words of a call ask for.
-#[derive(Debug, Clone, Copy)]
+#[derive(Debug, Drop)]
 pub struct Settings<'a> {
     /// The name of the layer map.
     pub map: &'a Name,
     /// The name of the layout.
     pub cif: &'a Name,
-    /// The side of the square defect, in hundredths of a micron.
-    pub side: u32,
+    /// The sides of the square defects, with their weights.
+    pub sides: Vec<SideWeight>,
 }
 
 impl<'a> Settings<'a> {
@@ -42,36 +44,20 @@ impl<'a> Settings<'a> {
     }
 }
 
-/// The greatest side of a defect, in hundredths of a micron.
-const MAX_SIDE: u32 = 32_768;
-
-/// The settings that `words` spell, or the reason why they spell none.
-pub fn read_words(words: &[Name]) -> Result<Settings<'_>, WordRefusal>
+/// The settings that `words` spell, or why there are none: a refusal with its cause, or want of memory.
+pub fn read_words(alloc: Global, words: &[Name]) -> Result<Settings<'_>, Status>
     ensures read { IfOk result (λ s. IsSettings words.now (settings_of s)) }
-    ensures refused { IfErr result (λ refusal. IsWordCause refusal words.now) }
+    ensures failure { (shelf : Shown) → IfErr result (IsFailure words.now shelf) }
 {
     match words {
-        [command, map, cif, side] if command.as_str() == "bridges" => match read_side(
-            side.as_str(),
+        [command, map, cif, word] if command.as_str() == "bridges" => match read_sides(
+            alloc,
+            word.as_str(),
         ) {
-            Some(side) => Ok(Settings { map, cif, side }),
-            None => Err(WordRefusal::BadSide),
+            Ok(Some(sides)) => Ok(Settings { map, cif, sides }),
+            Ok(None) => Err(Status::Refused(Refusal::Words(WordRefusal::BadSide))),
+            Err(_) => Err(Status::NoMemory),
         },
-        _ => Err(WordRefusal::Usage),
+        _ => Err(Status::Refused(Refusal::Words(WordRefusal::Usage))),
     }
-}
-
-/// The side that `text` spells: a plain decimal from 1 to 32,768.
-fn read_side(text: &str) -> Option<u32>
-    ensures found { IfSome result (λ side. IsSide side × (text.now ≡ decimal side)) }
-    ensures none { IfNone result ((n : ℕ) → IsSide n → text.now ≡ decimal n → ⊥) }
-{
-    let side = text.parse::<u32>().ok()?;
-    if side == 0 || side > MAX_SIDE {
-        return None;
-    }
-    if Buffer::new().format(side) != text {
-        return None;
-    }
-    Some(side)
 }

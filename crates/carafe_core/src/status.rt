@@ -3,11 +3,14 @@
 ghost use Rattle.std.specs.Prelude.{◌≡◌, OnOk, OnErr};
 ghost use Rattle.probe_io.specs.Causes.{HasCause};
 ghost use Rattle.probe_io.specs.Written.{Appends, AppendsFront};
-ghost use Rattle.carafe_core.specs.Answers.{exit_of, line_of, map_line, cif_line, place_line, unsupported_line};
+ghost use Rattle.carafe_core.specs.Answers.{exit_of, line_of, map_line, cif_line, flat_line, layout_line, sweep_line, place_line, unsupported_line, undefined_line};
 
 use crate::settings::WordRefusal;
+use cif_flatten::FlattenRefusal;
 use cif_reader::{CifRefusal, Feature};
+use defect_sweep::SweepRefusal;
 use layer_map::{MapRefusal, Side};
+use layout_extract::LayoutRefusal;
 use probe_io::{Failed, Piece, Sink, put_all, put_pieces};
 
 /// A file that the words name.
@@ -37,8 +40,10 @@ pub enum Refusal {
     Map(MapRefusal),
     /// The layout's text is refused.
     Cif(CifRefusal),
-    /// The file is of a form that is not read yet.
-    NotBuilt(Which),
+    /// The layout is not unfolded, or its nets are not named.
+    Layout(LayoutRefusal),
+    /// Too many pairs of the layout's nets are met.
+    Sweep(SweepRefusal),
 }
 
 /// How a call ends, as `IsAnswer` defines each.
@@ -66,7 +71,7 @@ impl Status {
         match self {
             Status::Done => 0,
             Status::Refused(Refusal::Words(_)) => 3,
-            Status::Refused(Refusal::Map(_) | Refusal::Cif(_) | Refusal::NotBuilt(_)) => 2,
+            Status::Refused(_) => 2,
             Status::OpenFault(_) | Status::ReadFault(_) => 4,
             Status::WriteFault(_) => 5,
             Status::NoMemory => 6,
@@ -91,14 +96,8 @@ impl Status {
             ),
             Status::Refused(Refusal::Map(refusal)) => put_map_line(diag, refusal),
             Status::Refused(Refusal::Cif(refusal)) => put_cif_line(diag, refusal),
-            Status::Refused(Refusal::NotBuilt(Which::Map)) => put_all(
-                diag,
-                b"carafe: NotBuilt map\n",
-            ),
-            Status::Refused(Refusal::NotBuilt(Which::Cif)) => put_all(
-                diag,
-                b"carafe: NotBuilt cif\n",
-            ),
+            Status::Refused(Refusal::Layout(refusal)) => put_layout_line(diag, refusal),
+            Status::Refused(Refusal::Sweep(refusal)) => put_sweep_line(diag, refusal),
             Status::OpenFault(Which::Map) => put_all(diag, b"carafe: OpenFault map\n"),
             Status::OpenFault(Which::Cif) => put_all(diag, b"carafe: OpenFault cif\n"),
             Status::ReadFault(Which::Map) => put_all(diag, b"carafe: ReadFault map\n"),
@@ -152,6 +151,67 @@ fn put_cif_line<K: Sink>(diag: &mut K, refusal: &CifRefusal) -> Result<(), Faile
         CifRefusal::BadLabel(place) => put_place(diag, b"BadLabel", *place),
         CifRefusal::TooManyPoints(place) => put_place(diag, b"TooManyPoints", *place),
         CifRefusal::NoMemory => put_all(diag, b"carafe: NoMemory\n"),
+    }
+}
+
+/// Writes the line of a layout whose nets are not named.
+fn put_layout_line<K: Sink>(diag: &mut K, refusal: &LayoutRefusal) -> Result<(), Failed>
+    ensures ok { OnOk result (Appends (K.written diag.old) (K.written diag.new) (layout_line refusal.now)) }
+    ensures front { OnErr result (AppendsFront (K.written diag.old) (K.written diag.new) (layout_line refusal.now)) }
+    ensures cause { HasCause (K.faults diag.old) (K.faults diag.new) result }
+{
+    match refusal {
+        LayoutRefusal::Flat(refusal) => put_flat_line(diag, refusal),
+        LayoutRefusal::TooManyNets => put_all(diag, b"carafe: TooManyNets\n"),
+        LayoutRefusal::LabelAmbiguous(place) => put_place(diag, b"LabelAmbiguous", *place),
+        LayoutRefusal::NoMemory => put_all(diag, b"carafe: NoMemory\n"),
+    }
+}
+
+/// Writes the line of a layout that is not unfolded.
+fn put_flat_line<K: Sink>(diag: &mut K, refusal: &FlattenRefusal) -> Result<(), Failed>
+    ensures ok { OnOk result (Appends (K.written diag.old) (K.written diag.new) (flat_line refusal.now)) }
+    ensures front { OnErr result (AppendsFront (K.written diag.old) (K.written diag.new) (flat_line refusal.now)) }
+    ensures cause { HasCause (K.faults diag.old) (K.faults diag.new) result }
+{
+    match refusal {
+        FlattenRefusal::Undefined(place, symbol) => put_undefined(diag, *place, *symbol),
+        FlattenRefusal::Recursive(symbol) => put_place(diag, b"Recursive", *symbol as u64),
+        FlattenRefusal::TooManyCalls => put_all(diag, b"carafe: TooManyCalls\n"),
+        FlattenRefusal::TooManyEdges => put_all(diag, b"carafe: TooManyEdges\n"),
+        FlattenRefusal::OutOfRange(place) => put_place(diag, b"OutOfRange", *place),
+        FlattenRefusal::TooFine => put_all(diag, b"carafe: TooFine\n"),
+        FlattenRefusal::NoMemory => put_all(diag, b"carafe: NoMemory\n"),
+    }
+}
+
+/// Writes the line of a call at a place of the text that names no symbol.
+fn put_undefined<K: Sink>(diag: &mut K, place: u64, symbol: u32) -> Result<(), Failed>
+    ensures ok { OnOk result (Appends (K.written diag.old) (K.written diag.new) (undefined_line place symbol)) }
+    ensures front { OnErr result (AppendsFront (K.written diag.old) (K.written diag.new) (undefined_line place symbol)) }
+    ensures cause { HasCause (K.faults diag.old) (K.faults diag.new) result }
+{
+    put_pieces(
+        diag,
+        &[
+            Piece::Text(b"carafe: Undefined "),
+            Piece::Number(place),
+            Piece::Text(b" "),
+            Piece::Number(symbol as u64),
+            Piece::Text(b"\n"),
+        ],
+    )
+}
+
+/// Writes the line of a layout with too many bridges.
+fn put_sweep_line<K: Sink>(diag: &mut K, refusal: &SweepRefusal) -> Result<(), Failed>
+    ensures ok { OnOk result (Appends (K.written diag.old) (K.written diag.new) (sweep_line refusal.now)) }
+    ensures front { OnErr result (AppendsFront (K.written diag.old) (K.written diag.new) (sweep_line refusal.now)) }
+    ensures cause { HasCause (K.faults diag.old) (K.faults diag.new) result }
+{
+    match refusal {
+        SweepRefusal::TooManyBridges => put_all(diag, b"carafe: TooManyBridges\n"),
+        SweepRefusal::NoMemory => put_all(diag, b"carafe: NoMemory\n"),
     }
 }
 

@@ -1,7 +1,9 @@
 // The command on layer maps and layouts, through the top call.
 use crate::{Refusal, Status, Stream, Which, WordRefusal, carafe};
+use cif_flatten::FlattenRefusal;
 use cif_reader::{CifRefusal, Feature};
 use layer_map::{MapRefusal, Side};
+use layout_extract::LayoutRefusal;
 use probe_io::{MemShelf, MemSink, Name};
 use std::alloc::{AllocError, Global};
 use std::test::Fail;
@@ -18,20 +20,26 @@ const THREE_BOXES: &str =
 const NOISY: &str =
     "L CMF; BOX LENGTH 10 WIDTH 10 CENTER 5,5; (another (one)); B10 10 17 5 -1 0;; 94 Vdd 5 5; 94 GND 17 5; End";
 
-const UNCALLED: &str =
-    "DS 7 2 1; L CPG; P 0 0 0 1 1 1 1 0; W 1 0 0 0 9; DF; L CMF; B 1 1 5 5; B 0 4 9 9; E";
+/// Vdd in two pieces, with GND between them.
+const TWO_PIECES: &str =
+    "L CMF; B 10 10 5 5; B 10 10 29 5; B 10 10 17 5; 94 Vdd 5 5; 94 Vdd 29 5; 94 GND 17 5; E";
 
-const CALLED: &str = "DS 1; L CMF; B 10 10 5 5; DF; C 1 T 12 0; E";
+/// A map of a process with poly, diffusions and one metal.
+const CELLS: &str =
+    "wire poly CPG\nwire ndiff CAA*CSN*!CPG\nwire pdiff CAA*CSP*!CPG\nwire metal CMF\ncut CCA : metal ndiff pdiff\ncut CCP : metal poly\nfet n CAA*CSN*CPG gate poly diff ndiff\nfet p CAA*CSP*CPG gate poly diff pdiff\nlabel CMF metal\nlabel CPG poly\nhigh Vdd\nlow GND\n";
 
-const DRAWN_ROUND: &str = "L CMF; W 2 0 0 10 0; E";
+const INVERTER: &str =
+    "(An inverter (one cell); written by hand);\nDS 1 25 2;\n9 inv;\nL CAA; B 12 4 10 10; B 12 4 10 30;\nL CSN; B 16 8 10 10;\nL CSP; B 16 8 10 30;\nL CPG; B 2 28 10 20; B 6 4 7 20;\nL CCP; B 2 2 6 20;\nL CCA; B 2 2 6 10; B 2 2 14 10; B 2 2 6 30; B 2 2 14 30;\nL CMF; B 20 4 10 2; B 4 12 6 6; B 20 4 10 38; B 4 12 6 34;\nB 4 24 14 20; B 4 4 6 20;\n94 GND 10 2 CMF; 94 Vdd 10 38 CMF;\n94 A 6 20 CMF; 94 Y 14 20 CMF;\nDF;\nC 1;\nEnd\n";
 
-const FAR: &str = "L CMF; B 2 2 8388608 0; E";
+const NAND: &str =
+    "DS 1 25 2;\nL CAA; B 18 4 13 10; B 18 4 13 30;\nL CSN; B 22 8 13 10;\nL CSP; B 22 8 13 30;\nL CPG; B 2 28 10 20; B 2 28 16 20;\nL CCA; B 2 2 6 10; B 2 2 20 10; B 2 2 6 30; B 2 2 13 30; B 2 2 20 30;\nL CMF; B 26 4 13 2; B 4 12 6 6; B 26 4 13 38; B 4 12 6 34; B 4 12 20 34;\nB 4 14 20 15; B 10 4 16 20; B 4 14 13 25;\n94 GND 2 2 CMF; 94 Vdd 2 38 CMF;\n94 A 10 20 CPG; 94 B 16 24 CPG; 94 Y 12 24 CMF;\nDF;\nC 1;\nE\n";
 
-const TOUCHING: &str = "L CMF; B 10 10 5 5; B 10 10 15 5; E";
+/// Two metals, with a via where both lie and one where only the lower one does.
+const TWO_METALS: &str =
+    "wire m1 CMF\nwire m2 CMS\ncut CVA : m1 m2\nlabel CMF m1\nlabel CMS m2\nhigh Vdd VDD\nlow GND\n";
 
-const LABEL_ON_EDGE: &str = "L CMF; B 10 10 5 5; 94 a 0 5; E";
-
-const ONE_NAME: &str = "L CMF; B 10 10 5 5; 94 a 5 5; 94 a 6 6; E";
+const VIAS: &str =
+    "L CMF; B 10 10 5 5; B 10 10 17 5; L CMS; B 10 10 5 5; B 4 10 40 5; L CVA; B 2 2 5 5; B 2 2 17 5; 94 Vdd 5 5 CMS; 94 GND 17 5 CMF; 94 VDD 40 5 CMS; 94 deep 99 99; E";
 
 /// Which calls of each device fail, and how many bytes a call moves.
 #[derive(Clone, Copy)]
@@ -113,8 +121,18 @@ fn reports_are_whole(rt: HostRuntime) -> Result<(), Fail> {
         ),
         (
             "bridges map cif 3",
-            UNCALLED,
-            "carafe bridges 1\nside 3\nnets 1\nlabels 0 0 0\nbridges 0\ntally bridges 0\n",
+            TWO_PIECES,
+            "carafe bridges 1\nside 3\nnets 2\nlabels 3 0 0\nbridges 1\nbridge 1 Vdd GND 50 metal=50\ntally bridges 1\n",
+        ),
+        (
+            "bridges map cif 3",
+            "DS 1; L CMF; B 2 2 1 1; 94 x 1 1; DF; DS 2; C 1; DF; C 2; E",
+            "carafe bridges 1\nside 3\nnets 1\nlabels 0 0 1\nbridges 0\ntally bridges 0\n",
+        ),
+        (
+            "bridges map cif 15",
+            TWO_PIECES,
+            "carafe bridges 1\nside 15\nnets 2\nlabels 3 0 0\nbridges 1\nbridge 1 Vdd GND 2401 metal=2401\ntally bridges 1\n",
         ),
         (
             "bridges map cif 1",
@@ -152,10 +170,60 @@ fn reports_are_whole(rt: HostRuntime) -> Result<(), Fail> {
 }
 
 #[test]
+fn sides_have_weights(rt: HostRuntime) -> Result<(), Fail> {
+    let rows = [
+        (
+            "bridges map cif 2:5,3:2",
+            "carafe bridges 1\nside 2:5,3:2\nnets 2\nlabels 2 0 0\nbridges 1\nbridge 1 Vdd GND 50 metal=50\ntally bridges 1\n",
+        ),
+        (
+            "bridges map cif 3:1,4:3",
+            "carafe bridges 1\nside 3,4:3\nnets 2\nlabels 2 0 0\nbridges 1\nbridge 1 Vdd GND 268 metal=268\ntally bridges 1\n",
+        ),
+        (
+            "bridges map cif 1,2,3,4,5,6,7,8:30",
+            "carafe bridges 1\nside 1,2,3,4,5,6,7,8:30\nnets 2\nlabels 2 0 0\nbridges 1\nbridge 1 Vdd GND 12315 metal=12315\ntally bridges 1\n",
+        ),
+    ];
+    for (words, report) in rows {
+        let ending = call(rt.alloc(), words, TWO_BOXES, &NONE)?;
+        assert_eq!(rt; ending.status, Status::Done, "{words}");
+        assert_eq!(rt; ending.out.bytes(), report.as_bytes(), "{words}");
+        assert_eq!(rt; ending.diag.bytes().len(), 0, "{words}");
+    }
+    Ok(())
+}
+
+#[test]
+fn other_words_are_no_sides(rt: HostRuntime) -> Result<(), Fail> {
+    for words in [
+        "bridges map cif 3,3",
+        "bridges map cif 4,3",
+        "bridges map cif 3:31",
+        "bridges map cif 3:",
+        "bridges map cif 3:0",
+        "bridges map cif 1,2,3,4,5,6,7,8,9",
+        "bridges map cif 3,",
+        "bridges map cif ,3",
+        "bridges map cif 3:1:1",
+        "bridges map cif :1",
+    ] {
+        let ending = call(rt.alloc(), words, TWO_BOXES, &NONE)?;
+        let refusal = Refusal::Words(WordRefusal::BadSide);
+        assert_eq!(rt; ending.status, Status::Refused(refusal), "{words}");
+        assert_eq!(rt;
+            ending.diag.bytes(),
+            b"carafe: BadSide\n".as_slice(),
+            "{words}"
+        );
+    }
+    Ok(())
+}
+
+#[test]
 fn refusals_come_in_order(rt: HostRuntime) -> Result<(), Fail> {
     let usage = (Refusal::Words(WordRefusal::Usage), "carafe: Usage\n", 3);
     let side = (Refusal::Words(WordRefusal::BadSide), "carafe: BadSide\n", 3);
-    let cif = (Refusal::NotBuilt(Which::Cif), "carafe: NotBuilt cif\n", 2);
     let rows = [
         ("", TWO_BOXES, usage),
         ("--help", TWO_BOXES, usage),
@@ -167,12 +235,6 @@ fn refusals_come_in_order(rt: HostRuntime) -> Result<(), Fail> {
         ("bridges map cif 03", TWO_BOXES, side),
         ("bridges map cif +3", TWO_BOXES, side),
         ("bridges absent absent x", TWO_BOXES, side),
-        ("bridges map cif 3", CALLED, cif),
-        ("bridges map cif 3", DRAWN_ROUND, cif),
-        ("bridges map cif 3", FAR, cif),
-        ("bridges map cif 3", TOUCHING, cif),
-        ("bridges map cif 3", LABEL_ON_EDGE, cif),
-        ("bridges map cif 3", ONE_NAME, cif),
     ];
     for (words, text, (refusal, line, exit)) in rows {
         let ending = call(rt.alloc(), words, text, &NONE)?;
@@ -185,7 +247,7 @@ fn refusals_come_in_order(rt: HostRuntime) -> Result<(), Fail> {
 }
 
 /// Maps, why each is refused, and the line that says so.
-const OTHER_MAPS: [(&str, Refusal, &str); 12] = [
+const OTHER_MAPS: [(&str, Refusal, &str); 7] = [
     (
         "wire metal CMF\n",
         Refusal::Map(MapRefusal::NoSupplyLine(Side::High)),
@@ -221,31 +283,6 @@ const OTHER_MAPS: [(&str, Refusal, &str); 12] = [
         Refusal::Map(MapRefusal::TooMany(1)),
         "carafe: TooMany 1\n",
     ),
-    (
-        "wire m1 CMF\nwire m2 CMS\nhigh Vdd\nlow GND\n",
-        Refusal::NotBuilt(Which::Map),
-        "carafe: NotBuilt map\n",
-    ),
-    (
-        "wire metal CMF*CM2\nhigh Vdd\nlow GND\n",
-        Refusal::NotBuilt(Which::Map),
-        "carafe: NotBuilt map\n",
-    ),
-    (
-        "wire metal CMF\ncut CVA: metal\nhigh Vdd\nlow GND\n",
-        Refusal::NotBuilt(Which::Map),
-        "carafe: NotBuilt map\n",
-    ),
-    (
-        "wire metal CMF\nfet n CPG gate metal diff metal\nhigh Vdd\nlow GND\n",
-        Refusal::NotBuilt(Which::Map),
-        "carafe: NotBuilt map\n",
-    ),
-    (
-        "wire metal CMF\nhigh Vdd Vcc\nlow GND\n",
-        Refusal::NotBuilt(Which::Map),
-        "carafe: NotBuilt map\n",
-    ),
 ];
 
 #[test]
@@ -270,6 +307,91 @@ fn a_wire_has_its_name_and_layer(rt: HostRuntime) -> Result<(), Fail> {
     assert_eq!(rt; ending.status, Status::Done);
     assert_eq!(rt; ending.out.bytes(), report.as_bytes());
     assert_eq!(rt; ending.diag.bytes().len(), 0);
+    Ok(())
+}
+
+/// Words, maps, layouts and the reports on them.
+const CELL_REPORTS: [(&str, &str, &str, &str); 3] = [
+    (
+        "bridges map cif 55",
+        CELLS,
+        INVERTER,
+        "carafe bridges 1\nside 55\nnets 4\nlabels 4 0 0\nbridges 3\nbridge 1 GND Y 16012 ndiff=12331 metal=3681\nbridge 2 Y Vdd 16012 pdiff=12331 metal=3681\nbridge 3 A Y 1881 metal=1881\ntally bridges 3\n",
+    ),
+    (
+        "bridges map cif 26",
+        CELLS,
+        NAND,
+        "carafe bridges 1\nside 26\nnets 6\nlabels 5 0 0\nbridges 3\nbridge 1 Y Vdd 302 pdiff=302\nbridge 2 GND #3 151 ndiff=151\nbridge 3 #3 Y 151 ndiff=151\ntally bridges 3\n",
+    ),
+    (
+        "bridges map cif 3",
+        TWO_METALS,
+        VIAS,
+        "carafe bridges 1\nside 3\nnets 2\nlabels 3 1 0\nbridges 1\nbridge 1 VDD GND 25 m1=25\ntally bridges 1\n",
+    ),
+];
+
+#[test]
+fn cells_are_reported(rt: HostRuntime) -> Result<(), Fail> {
+    for (words, map, cif, report) in CELL_REPORTS {
+        let ending = call_on(rt.alloc(), words, map, cif, &NONE)?;
+        assert_eq!(rt; ending.status, Status::Done, "{words}");
+        assert_eq!(rt; ending.out.bytes(), report.as_bytes(), "{words}");
+        assert_eq!(rt; ending.diag.bytes().len(), 0, "{words}");
+    }
+    Ok(())
+}
+
+/// Layouts that are not unfolded or whose nets are not named, why, and the line that says so.
+const REFUSED_LAYOUTS: [(&str, LayoutRefusal, &str); 7] = [
+    (
+        "C 7; E",
+        LayoutRefusal::Flat(FlattenRefusal::Undefined(0, 7)),
+        "carafe: Undefined 0 7\n",
+    ),
+    (
+        "DS 1; C 2; DF; DS 2; C 1; DF; C 1; E",
+        LayoutRefusal::Flat(FlattenRefusal::Recursive(1)),
+        "carafe: Recursive 1\n",
+    ),
+    (
+        "DS 1; DF; DS 2; C 1; C 1; DF; DS 3; C 2; C 2; DF; DS 4; C 3; C 3; DF; DS 5; C 4; C 4; DF; DS 6; C 5; C 5; DF; DS 7; C 6; C 6; DF; DS 8; C 7; C 7; DF; DS 9; C 8; C 8; DF; DS 10; C 9; C 9; DF; DS 11; C 10; C 10; DF; DS 12; C 11; C 11; DF; DS 13; C 12; C 12; DF; DS 14; C 13; C 13; DF; DS 15; C 14; C 14; DF; DS 16; C 15; C 15; DF; C 16; C 16; E",
+        LayoutRefusal::Flat(FlattenRefusal::TooManyCalls),
+        "carafe: TooManyCalls\n",
+    ),
+    (
+        "DS 1; L CMF; B 2 2 1 1; B 2 2 1 1; DF; DS 2; C 1; C 1; DF; DS 3; C 2; C 2; DF; DS 4; C 3; C 3; DF; DS 5; C 4; C 4; DF; DS 6; C 5; C 5; DF; DS 7; C 6; C 6; DF; DS 8; C 7; C 7; DF; DS 9; C 8; C 8; DF; DS 10; C 9; C 9; DF; DS 11; C 10; C 10; DF; DS 12; C 11; C 11; DF; DS 13; C 12; C 12; DF; DS 14; C 13; C 13; DF; DS 15; C 14; C 14; DF; C 15; 94 a 0 0; E",
+        LayoutRefusal::Flat(FlattenRefusal::TooManyEdges),
+        "carafe: TooManyEdges\n",
+    ),
+    (
+        "L CMF; B 2 2 8388608 0; E",
+        LayoutRefusal::Flat(FlattenRefusal::OutOfRange(7)),
+        "carafe: OutOfRange 7\n",
+    ),
+    (
+        "L CMF; B 10 10 5 5; B 10 10 15 15; 94 S 10 10 CMF; E",
+        LayoutRefusal::LabelAmbiguous(35),
+        "carafe: LabelAmbiguous 35\n",
+    ),
+    (
+        "94 S 10 10 CMF; L CMF; B 10 10 5 5; B 10 10 15 15; 94 T 10 10; E",
+        LayoutRefusal::LabelAmbiguous(0),
+        "carafe: LabelAmbiguous 0\n",
+    ),
+];
+
+#[test]
+fn layouts_are_refused(rt: HostRuntime) -> Result<(), Fail> {
+    for (text, refusal, line) in REFUSED_LAYOUTS {
+        let ending = call(rt.alloc(), "bridges map cif 1", text, &NONE)?;
+        let status = Status::Refused(Refusal::Layout(refusal));
+        assert_eq!(rt; ending.status, status, "{line}");
+        assert_eq!(rt; ending.status.exit_number(), 2, "{line}");
+        assert_eq!(rt; ending.diag.bytes(), line.as_bytes(), "{line}");
+        assert_eq!(rt; ending.out.bytes().len(), 0, "{line}");
+    }
     Ok(())
 }
 

@@ -1,12 +1,11 @@
-use Rattle.std.proofs.lemmas.Result.{on_err_weaker}
-use Rattle.probe_io.proofs.CauseLemmas.{on_err}
-use Rattle.probe_io.proofs.WrittenLemmas.{Appends-front, AppendsFront-more}
+use Rattle.std.proofs.lemmas.Result.{on_ok_weaker, on_err_weaker}
+use Rattle.carafe_core.proofs.LineLemmas.{Front-is, Whole-is, text_is}
 use Rattle.carafe_core.proofs.report.put_report.Goals as goal
 
-pub returns-in_err-put_bridges-clause-front : goal.returns-in_err-put_bridges-clause-front
-returns-in_err-put_bridges-clause-front g c =
-    on_err _ (Appends-front c.in_ok-put_header.ensures.ok (AppendsFront-more c.in_err-put_bridges.ensures.front _))
+pub returns-clause-ok : goal.returns-clause-ok
+returns-clause-ok g c =
+    on_ok_weaker _ (λ whole. Whole-is (text_is c.args.sides.now c.wires.result.now c.args.subject.now.map _ c.args.subject.now.named c.tallies.result _ _ c.wires.ensures.same c.names.ensures.same c.tallies.ensures c.as_slice.ensures.value) whole) c.put_text.ensures.ok
 
 pub returns-clause-front : goal.returns-clause-front
 returns-clause-front g c =
-    on_err_weaker _ (λ front. Appends-front c.in_ok-put_header.ensures.ok (Appends-front c.in_ok-put_bridges.ensures.ok front)) c.put_tally.ensures.front
+    on_err_weaker _ (λ front. Front-is (text_is c.args.sides.now c.wires.result.now c.args.subject.now.map _ c.args.subject.now.named c.tallies.result _ _ c.wires.ensures.same c.names.ensures.same c.tallies.ensures c.as_slice.ensures.value) front) c.put_text.ensures.front

@@ -1,0 +1,3 @@
+mod Derivations
+mod Joins
+mod Verdicts

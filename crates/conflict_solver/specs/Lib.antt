@@ -1,2 +1,5 @@
 pub mod Deriving
 pub mod Answering
+pub mod Joining
+pub mod Setting
+pub mod Running

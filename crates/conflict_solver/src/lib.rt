@@ -7,7 +7,12 @@
 //! command `solve` stands on it.
 #![tactic(auto)]
 
+mod joining;
+mod order;
+mod restarts;
+mod saying;
 mod solving;
+mod values;
 mod verdict;
 
 pub use solving::solve;

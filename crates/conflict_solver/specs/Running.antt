@@ -1,0 +1,45 @@
+-- A search under way.
+use Rattle.std.specs.Prelude.{◌≡◌, ◌≢◌, ℕ, ◌+◌, ◌*◌, ◌-◌, ◌≤◌, ℤ, Option, Result, Err, IfSome, IfNone, List, [], ◌++◌, length, take, All}
+use Rattle.probe_io.specs.Causes.{Rose}
+use Rattle.clause_base.specs.Formulas.{Clauses}
+use Rattle.proof_sinks.specs.Calls.{KeepsTold}
+use Rattle.proof_sinks.specs.declared.lines.Said.{Said}
+use Rattle.search_trail.specs.Trails.{Search}
+use Rattle.clause_watches.specs.Watching.{Watched, AreKept, IsConflict}
+use Rattle.conflict_solver.specs.declared.verdict.SolveFault.{SolveFault}
+use Rattle.conflict_solver.specs.declared.verdict.SolveFault.TheVariants.{Sink}
+use Rattle.conflict_solver.specs.Deriving.{AreDerived, given_lines, line_clauses, proof_of}
+
+-- What a call keeps of its sink: its count of faults never falls, and rose where the answer is its fault.
+pub record KeepsSink {T : Type 0} (old_faults new_faults : ℕ) (old_before new_before : Option (List ℕ)) (result : Result T SolveFault) : Type 0 where
+  pub later : old_faults ≤ new_faults
+  pub cause : result ≡ Err Sink → Rose old_faults new_faults
+  pub before : KeepsTold old_before new_before
+
+-- So many clauses were given, before a level began: each is watched, or one of them is false.
+pub record IsGiving (formula : Clauses) (count : ℕ) (said : List Said) (s : Search) (w : Watched) (conflict : Option ℕ) : Type 0 where
+  pub given : said ≡ given_lines (take count formula.clauses)
+  pub clauses : s.clauses ≡ take count formula.clauses
+  pub vars : s.vars ≡ formula.vars
+  pub ground : s.starts ≡ []
+  pub head : w.head ≡ 0
+  pub kept : IfNone conflict (AreKept s w)
+  pub failed : IfSome conflict (IsConflict s)
+
+-- All clauses were given, and lines were derived, none of them empty; `left` more may be said.
+pub record IsUnderWay (formula : Clauses) (budget left : ℕ) (said : List Said) (s : Search) : Type 0 where
+  pub lines : List (List ℤ × List ℕ)
+  pub whole : said ≡ proof_of formula lines
+  pub derived : AreDerived formula budget lines
+  pub filled : All (λ line. line.0 ≢ []) lines
+  pub count : length lines + left ≡ budget
+  pub clauses : s.clauses ≡ formula.clauses ++ line_clauses lines
+  pub vars : s.vars ≡ formula.vars
+
+-- how many literals there are, and two more
+abbrev pub room : Search → ℕ
+room s = s.vars * 2 + 2
+
+-- What is left of a search: it falls with each line, and with each literal that joins the trail between two lines.
+abbrev pub work_left : ℕ → Search → ℕ
+work_left left s = left * (room s + 1) + (room s - length s.lits)

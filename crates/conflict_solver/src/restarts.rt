@@ -1,0 +1,49 @@
+//! When a search begins anew from its first level. No contract speaks of it.
+
+/// The least number of conflicts between two restarts.
+const SHORTEST: u64 = 64;
+
+/// Counts conflicts. Between restarts there are 1, 1, 2, 1, 1, 2, 4, .. times the least number: each power of two comes
+/// once both halves of the list before it were gone through.
+#[derive(Clone, Copy, Debug)]
+pub(crate) struct Restarts {
+    /// How many restarts there were, and one more.
+    number: u64,
+    /// How many conflicts are left until the next one.
+    left: u64,
+}
+
+impl Restarts {
+    pub(crate) fn new() -> Restarts {
+        Restarts {
+            number: 1,
+            left: SHORTEST,
+        }
+    }
+
+    /// Counts a conflict, and says whether the search begins anew.
+    pub(crate) fn is_due(&mut self) -> bool {
+        self.left = self.left.saturating_sub(1);
+        if self.left > 0 {
+            return false;
+        }
+        self.number = self.number.saturating_add(1);
+        self.left = SHORTEST.saturating_mul(length_of(self.number));
+        true
+    }
+}
+
+/// The member with this number, from 1, of the list 1, 1, 2, 1, 1, 2, 4, ..
+fn length_of(number: u64) -> u64 {
+    let mut rest = number;
+    for bits in (1..=62).rev() {
+        let whole = (1 << bits) - 1;
+        if rest == whole {
+            return 1 << (bits - 1);
+        }
+        if rest > whole {
+            rest -= whole;
+        }
+    }
+    1
+}

@@ -7,8 +7,10 @@
 //! command `solve` stands on it.
 #![tactic(auto)]
 
+mod laws;
 mod solving;
 mod verdict;
 
+pub use laws::{few_new_lines, lines_are_new};
 pub use solving::solve;
 pub use verdict::{SolveFault, Verdict};

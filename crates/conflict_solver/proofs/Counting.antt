@@ -1,5 +1,5 @@
 -- How many lines can be new to each other: fewer than 3 to the power of the number of variables.
-use Rattle.std.proofs.Common.{◌≡◌, ◌≢◌, ℕ, zero, suc, ◌+◌, ◌*◌, ◌^◌, ◌<◌, ◌≤◌, inl, inr, ℤ, pos, negsuc, Bool, true, false, eqb, List, [], ◌∷◌, ◌++◌, map, length, get_or, All, Contains, refl, sym, ap, ◌∙◌, subst, pow-suc, arith}
+use Rattle.std.proofs.Common.{◌≡◌, ◌≢◌, ℕ, zero, suc, ◌+◌, ◌*◌, ◌^◌, ◌<◌, inl, inr, ℤ, pos, negsuc, Bool, true, false, eqb, List, [], ◌∷◌, ◌++◌, map, length, get_or, All, Contains, refl, sym, subst, pow-suc, arith}
 use Rattle.std.specs.List.{AllByRecursion, IsDistinct, list_any}
 use Rattle.std.proofs.lemmas.Int.{ints}
 use Rattle.std.proofs.lemmas.Bool.{cases_lt}
@@ -84,12 +84,13 @@ negation_lt vars n is = grind (arith, ints, nat_tests, is)
 module _ (vars : ℕ) where
   has_too : (a b : List ℤ) → IsApart a → ternary vars a ≡ ternary vars b → (l : ℤ) → is_literal_of vars l ≡ true → Contains a l → Contains b l
   has_too a b apart same (pos zero) is has = cc
-  has_too a b apart same (pos (suc n)) is has = in_contains b (pos (suc n))
-      (same_there _ (is_in a (negsuc n)) _ (is_in b (negsuc n)) (same_digits vars a b same n (variable_lt vars n is)) (contains_in a (pos (suc n)) has))
-  has_too a b apart same (negsuc n) is has = in_contains b (negsuc n)
-      (same_negated (is_in a (pos (suc n))) _ (is_in b (pos (suc n))) _ (same_digits vars a b same n (negation_lt vars n is))
-          (λ there negated. apart.apart (pos (suc n)) (in_contains a (pos (suc n)) there) (in_contains a (negsuc n) negated))
-          (contains_in a (negsuc n) has))
+  has_too a b apart same (pos (suc n)) is has =
+      let digits = same_digits vars a b same n (variable_lt vars n is) in
+      in_contains b (pos (suc n)) (same_there _ (is_in a (negsuc n)) _ (is_in b (negsuc n)) digits (contains_in a (pos (suc n)) has))
+  has_too a b apart same (negsuc n) is has =
+      let alone : is_in a (pos (suc n)) ≡ true → is_in a (negsuc n) ≡ true → ⊥ = λ there negated. apart.apart (pos (suc n)) (in_contains a (pos (suc n)) there) (in_contains a (negsuc n) negated) in
+      let digits = same_digits vars a b same n (negation_lt vars n is) in
+      in_contains b (negsuc n) (same_negated (is_in a (pos (suc n))) _ (is_in b (pos (suc n))) _ digits alone (contains_in a (negsuc n) has))
 
   all_there : (a b : List ℤ) → IsPlain vars a → ternary vars a ≡ ternary vars b → All (Contains b) a
   all_there a b plain same k d lt = has_too a b plain.once.apart same (get_or a k d) (plain.literals k d lt) (Contains-get_or a k d lt)
@@ -116,9 +117,10 @@ module _ (vars : ℕ) where
   differ_all : (a : List ℤ) (lines : List (List ℤ × List ℕ)) → IsPlain vars a → ArePlain lines → All (λ line. HaveSame a line.0 → ⊥) lines
       → AllByRecursion (λ n. eqb (ternary vars a) n ≡ false) (numbers lines)
   differ_all a [] p plain others = tt
-  differ_all a (line ∷ lines) p plain others =
-      ( differ a line.0 p (All-head (λ line. IsPlain vars line.0) line lines plain) (All-head (λ line. HaveSame a line.0 → ⊥) line lines others)
-      , differ_all a lines p (All-tail (λ line. IsPlain vars line.0) line lines plain) (All-tail (λ line. HaveSame a line.0 → ⊥) line lines others) )
+  differ_all a (line ∷ lines) p plain others = (
+    differ a line.0 p (All-head (λ line. IsPlain vars line.0) line lines plain) (All-head (λ line. HaveSame a line.0 → ⊥) line lines others),
+    differ_all a lines p (All-tail (λ line. IsPlain vars line.0) line lines plain) (All-tail (λ line. HaveSame a line.0 → ⊥) line lines others),
+  )
 
   -- no line has the same literals as an earlier clause
   others : (a : List ℤ) (earlier : List (List ℤ)) (lines : List (List ℤ × List ℕ)) → Contains earlier a → AllNew earlier lines → All (λ line. HaveSame a line.0 → ⊥) lines
@@ -130,17 +132,19 @@ module _ (vars : ℕ) where
   distinct : (earlier : List (List ℤ)) (lines : List (List ℤ × List ℕ)) → AllNew earlier lines → ArePlain lines → IsDistinct eqb (numbers lines)
   unfolding IsDistinct
   distinct earlier [] new plain = tt
-  distinct earlier (line ∷ lines) new plain =
-      ( differ_all line.0 lines (All-head (λ line. IsPlain vars line.0) line lines plain) (All-tail (λ line. IsPlain vars line.0) line lines plain)
-          (others line.0 (earlier ++ line.0 ∷ []) lines (Contains-push earlier line.0) new.1)
-      , distinct (earlier ++ line.0 ∷ []) lines new.1 (All-tail (λ line. IsPlain vars line.0) line lines plain) )
+  distinct earlier (line ∷ lines) new plain = (
+    differ_all line.0 lines (All-head (λ line. IsPlain vars line.0) line lines plain) (All-tail (λ line. IsPlain vars line.0) line lines plain)
+        (others line.0 (earlier ++ line.0 ∷ []) lines (Contains-push earlier line.0) new.1),
+    distinct (earlier ++ line.0 ∷ []) lines new.1 (All-tail (λ line. IsPlain vars line.0) line lines plain),
+  )
 
   -- ---- and none has the number of the empty clause
 
   empty_plain : IsPlain vars []
   empty_plain = record {
     once = record { once = λ p q lt less same. let none : ⊥ = omega (arith, lt) in absurd none; apart = record { apart = λ l has back. empty_has l has } };
-    literals = All-nil (λ l. is_literal_of vars l ≡ true) }
+    literals = All-nil (λ l. is_literal_of vars l ≡ true);
+  }
     where
       empty_has : (l : ℤ) → Contains [] l → ⊥
       empty_has l has = omega (arith, has.1)
@@ -157,13 +161,21 @@ module _ (vars : ℕ) where
       smaller : (m : ℕ) → m < bound → eqb n m ≡ true → n < bound
       smaller m lt same = grind (arith, nat_tests, lt, same)
 
+  -- the numbers of the lines, behind that of the empty clause
+  abbrev all_numbers : List (List ℤ × List ℕ) → List ℕ
+  all_numbers lines = ternary vars [] ∷ numbers lines
+
+  all_distinct : (earlier : List (List ℤ)) (lines : List (List ℤ × List ℕ)) → AllNew earlier lines → All (λ line. line.0 ≢ []) lines → ArePlain lines → IsDistinct eqb (all_numbers lines)
+  all_distinct earlier lines new some plain =
+      let others = differ_all [] lines empty_plain plain (λ k d lt. not_empty (get_or lines k d).0 (some k d lt)) in
+      IsDistinct-cons eqb (ternary vars []) (numbers lines) others (distinct earlier lines new plain)
+
+  all_small : (lines : List (List ℤ × List ℕ)) → All (λ n. n < 3 ^ vars) (all_numbers lines)
+  all_small lines =
+      let rest = All-map (λ n. n < 3 ^ vars) (λ (line : List ℤ × List ℕ). ternary vars line.0) lines (λ k d lt. ternary-lt vars (get_or lines k d).0) in
+      All-cons (λ n. n < 3 ^ vars) (ternary vars []) (numbers lines) (ternary-lt vars []) rest
+
   pub few_lines : (earlier : List (List ℤ)) (lines : List (List ℤ × List ℕ)) → AllNew earlier lines → All (λ line. line.0 ≢ []) lines → All (λ line. IsPlain vars line.0) lines → length lines < 3 ^ vars
   few_lines earlier lines new some plain =
-      let all = ternary vars [] ∷ numbers lines in
-      let apart : IsDistinct eqb all = IsDistinct-cons eqb (ternary vars []) (numbers lines)
-          (differ_all [] lines empty_plain plain (λ k d lt. not_empty (get_or lines k d).0 (some k d lt)))
-          (distinct earlier lines new plain) in
-      let below : All (λ n. n < 3 ^ vars) all = All-cons (λ n. n < 3 ^ vars) (ternary vars []) (numbers lines) (ternary-lt vars [])
-          (All-map (λ n. n < 3 ^ vars) (λ (line : List ℤ × List ℕ). ternary vars line.0) lines (λ k d lt. ternary-lt vars (get_or lines k d).0)) in
-      let count = length-le_from_distinct_below all (3 ^ vars) apart (all_below (3 ^ vars) all below) in
+      let count = length-le_from_distinct_below (all_numbers lines) (3 ^ vars) (all_distinct earlier lines new some plain) (all_below (3 ^ vars) (all_numbers lines) (all_small lines)) in
       omega (arith, count, length-map lines (λ (line : List ℤ × List ℕ). ternary vars line.0))

@@ -19,6 +19,7 @@ new_line vars earlier clause (inr teaches) some plain =
 
 pub all_new : (vars : ℕ) (earlier : List (List ℤ)) (lines : List (List ℤ × List ℕ)) → AllTeach earlier lines → All (λ line. line.0 ≢ []) lines → All (λ line. IsPlain vars line.0) lines → AllNew earlier lines
 all_new vars earlier [] teach some plain = tt
-all_new vars earlier (line ∷ lines) teach some plain =
-    ( new_line vars earlier line.0 teach.0 (All-head (λ line. line.0 ≢ []) line lines some) (All-head (λ line. IsPlain vars line.0) line lines plain)
-    , all_new vars (earlier ++ line.0 ∷ []) lines teach.1 (All-tail (λ line. line.0 ≢ []) line lines some) (All-tail (λ line. IsPlain vars line.0) line lines plain) )
+all_new vars earlier (line ∷ lines) teach some plain = (
+  new_line vars earlier line.0 teach.0 (All-head (λ line. line.0 ≢ []) line lines some) (All-head (λ line. IsPlain vars line.0) line lines plain),
+  all_new vars (earlier ++ line.0 ∷ []) lines teach.1 (All-tail (λ line. line.0 ≢ []) line lines some) (All-tail (λ line. IsPlain vars line.0) line lines plain),
+)

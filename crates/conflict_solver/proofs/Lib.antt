@@ -1,3 +1,5 @@
+pub mod News
+pub mod Counting
 mod Derivations
 mod Joins
 mod Verdicts

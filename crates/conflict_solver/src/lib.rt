@@ -8,6 +8,7 @@
 #![tactic(auto)]
 
 mod joining;
+mod laws;
 mod order;
 mod restarts;
 mod saying;
@@ -15,5 +16,6 @@ mod solving;
 mod values;
 mod verdict;
 
+pub use laws::{few_new_lines, lines_are_new};
 pub use solving::solve;
 pub use verdict::{SolveFault, Verdict};

@@ -22,10 +22,10 @@ use Rattle.cif_reader.proofs.Numbered.{some_any}
 use Rattle.cif_flatten.specs.Sizes.{called_by}
 use Rattle.cif_flatten.specs.Reaching.{has, is_defined, Grown, Searched, IsLeastAmong, IsLesser}
 
-false_true : false ≡ true → ⊥
+pub false_true : false ≡ true → ⊥
 false_true h = cc
 
-or_case : {P : Type 0} (a b : Bool) → (a || b) ≡ true → (a ≡ true → P) → (b ≡ true → P) → P
+pub or_case : {P : Type 0} (a b : Bool) → (a || b) ≡ true → (a ≡ true → P) → (b ≡ true → P) → P
 or_case true b h f g = f refl
 or_case false b h f g = g h
 
@@ -39,10 +39,10 @@ or_right false b h = h
 below_none : (j : ℕ) → j < 0 → ⊥
 below_none j h = omega (arith, h)
 
-some_is : (m n : ℕ) → Some m ≡ Some n → m ≡ n
+pub some_is : (m n : ℕ) → Some m ≡ Some n → m ≡ n
 some_is m n h = cc
 
-call_is : (n : ℕ) (what : What) → is_call_of n what ≡ true → called_by what ≡ Some n
+pub call_is : (n : ℕ) (what : What) → is_call_of n what ≡ true → called_by what ≡ Some n
 call_is n (Draw layer shape) h = absurd (false_true h)
 call_is n (Call called place) h = ap (λ k. Some k) (sym (eqb-true n called h))
 call_is n (Mark name at layer) h = absurd (false_true h)
@@ -52,7 +52,7 @@ is_call n (Draw layer shape) h = absurd (none-some n h)
 is_call n (Call called place) h = eq-eqb n called (sym (some_is called n h))
 is_call n (Mark name at layer) h = absurd (none-some n h)
 
-one_call : (n : ℕ) (item : Item) → has_call n (item ∷ []) ≡ true → called_by item.what ≡ Some n
+pub one_call : (n : ℕ) (item : Item) → has_call n (item ∷ []) ≡ true → called_by item.what ≡ Some n
 one_call n item h = or_case (is_call_of n item.what) false h (call_is n item.what) (λ no_more. absurd (false_true no_more))
 
 call_one : (n : ℕ) (item : Item) → called_by item.what ≡ Some n → has_call n (item ∷ []) ≡ true
@@ -236,10 +236,10 @@ items_case : (n : ℕ) (s : Option Symbol) → has_call n (items_in s) ≡ true 
 items_case n None h = absurd (false_true h)
 items_case n (Some s) h = refl
 
-defined_caller : (symbols : List Symbol) (k n : ℕ) → calls symbols k n ≡ true → is_defined symbols k ≡ true
+pub defined_caller : (symbols : List Symbol) (k n : ℕ) → calls symbols k n ≡ true → is_defined symbols k ≡ true
 defined_caller symbols k n h = sym (some_any (has_number k) symbols) ∙ items_case n (find (has_number k) symbols) h
 
-first_defined : (symbols : List Symbol) (c : ℕ) (cs : List ℕ) (b : ℕ) → CallsAlong symbols c cs b → is_defined symbols c ≡ true
+pub first_defined : (symbols : List Symbol) (c : ℕ) (cs : List ℕ) (b : ℕ) → CallsAlong symbols c cs b → is_defined symbols c ≡ true
 first_defined symbols c [] b h = defined_caller symbols c b h
 first_defined symbols c (d ∷ cs) b h = defined_caller symbols c d h.0
 
@@ -312,7 +312,7 @@ lesser_one symbols l n r (inr e) h k = subst (λ q. CallsThrough symbols q q) (s
 lesser_through : (symbols : List Symbol) (l n r : ℕ) → r ≡ min l n → CallsThrough symbols l l → CallsThrough symbols n n → CallsThrough symbols r r
 lesser_through symbols l n r is h k = lesser_one symbols l n r (min_case l n r is) h k
 
-new_number : (symbols : List Symbol) (i : ℕ) (d : Symbol) → i < length symbols → (m : ℕ) → is_defined (take (i + 1) symbols) m ≡ true → (is_defined (take i symbols) m ≡ true) ⊎ (m ≡ (get_or symbols i d).number)
+pub new_number : (symbols : List Symbol) (i : ℕ) (d : Symbol) → i < length symbols → (m : ℕ) → is_defined (take (i + 1) symbols) m ≡ true → (is_defined (take i symbols) m ≡ true) ⊎ (m ≡ (get_or symbols i d).number)
 new_number symbols i d inside m h =
     or_case (is_defined (take i symbols) m) ((m == (get_or symbols i d).number) || false)
     (sym (ap (λ k. is_defined (take k symbols) m) (add-one i) ∙ ap (λ xs. is_defined xs m) (take-suc symbols i d inside) ∙ list_any-append (has_number m) (take i symbols) (get_or symbols i d ∷ [])) ∙ h)

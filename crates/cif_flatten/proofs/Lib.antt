@@ -5,6 +5,7 @@ pub mod Sizing
 pub mod Nesting
 pub mod Exploring
 pub mod Circling
+pub mod Ranked
 pub mod Distinct
 pub mod Unrolled
 pub mod Ranges

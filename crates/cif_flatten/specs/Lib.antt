@@ -4,5 +4,6 @@ pub mod Faults
 pub mod Sizes
 pub mod FileSize
 pub mod Reaching
+pub mod Ranking
 pub mod Flattening
 pub mod Unrolling

@@ -6,8 +6,10 @@ ghost use Rattle.cif_flatten.specs.Unfolding.{items_of};
 ghost use Rattle.cif_flatten.specs.Faults.{CallsThrough, IsRecursive, IsNested};
 ghost use Rattle.cif_flatten.specs.Sizes.{called_by};
 ghost use Rattle.cif_flatten.specs.Reaching.{Grown, IsLeastAmong, IsLesser, is_defined as is_defined_lem};
+ghost use Rattle.cif_flatten.specs.Ranking.{rank_of, IsHeight, FallsBefore, NeverRises};
 
 use crate::calls::is_defined;
+use crate::components::{Ranks, component_ranks};
 use crate::sizes::{called, unfolded_size};
 use cif_reader::{CifFile, Item};
 use indexmap::IndexSet;
@@ -22,7 +24,83 @@ pub fn recursive_symbol(alloc: Global, file: &CifFile) -> Result<Option<u32>, Al
     if unfolded_size(alloc, file)?.is_some() {
         return Ok(None);
     }
+    if let Some(number) = ranked_circle(alloc, file)? {
+        return Ok(Some(number));
+    }
     least_circle(alloc, file)
+}
+
+/// The least number of a symbol that calls itself, in time linear in the file, or `None` where the ranks do not show which
+/// one it is.
+fn ranked_circle(alloc: Global, file: &CifFile) -> Result<Option<u32>, AllocError>
+    ensures { IfOk result (λ found. IfSome found (λ number. IsRecursive file.now number)) }
+{
+    let ranks = component_ranks(alloc, file)?;
+    let Some(number) = least_level(file, &ranks) else {
+        return Ok(None);
+    };
+    if !never_rises(file, &ranks) || !calls_itself(alloc, file, number)? {
+        return Ok(None);
+    }
+    Ok(Some(number))
+}
+
+/// The least number of a symbol that calls one of no lesser rank.
+fn least_level(file: &CifFile, ranks: &Ranks) -> Option<u32>
+    ensures { FallsBefore file.now.symbols (rank_of ranks.now) file.now.symbols result }
+{
+    let mut least = None;
+    for place in 0..file.symbol_count() {
+        if let Some(symbol) = file.symbol_at(place) {
+            let falls = height(file, ranks, symbol.number) < rank(ranks, symbol.number);
+            least = lesser(least, symbol.number, !falls);
+        }
+    }
+    least
+}
+
+/// Whether no symbol calls one of greater rank.
+fn never_rises(file: &CifFile, ranks: &Ranks) -> bool
+    ensures { result ≡ true → NeverRises file.now.symbols (rank_of ranks.now) file.now.symbols }
+{
+    for place in 0..file.symbol_count() {
+        if let Some(symbol) = file.symbol_at(place) {
+            if height(file, ranks, symbol.number) > rank(ranks, symbol.number) {
+                return false;
+            }
+        }
+    }
+    true
+}
+
+/// The greatest rank of what the symbol calls, and 0 where it calls nothing.
+fn height(file: &CifFile, ranks: &Ranks, number: u32) -> usize
+    ensures { IsHeight (rank_of ranks.now) (items_of file.now.symbols number) result }
+{
+    let Some(symbol) = file.symbol(number) else {
+        return 0;
+    };
+    items_height(ranks, &symbol.items)
+}
+
+/// The greatest rank of what the items call, and 0 where they call nothing.
+fn items_height(ranks: &Ranks, items: &[Item]) -> usize
+    ensures { IsHeight (rank_of ranks.now) items.now result }
+{
+    let mut height = 0;
+    for item in items {
+        if let Some(number) = called(item) {
+            height = height.max(rank(ranks, number));
+        }
+    }
+    height
+}
+
+/// The rank of the symbol, and 0 where it has none.
+fn rank(ranks: &Ranks, number: u32) -> usize
+    ensures { result ≡ rank_of ranks.now number }
+{
+    ranks.get(&number).copied().unwrap_or(0)
 }
 
 /// The least number of a symbol that calls itself, found by a search from each.
@@ -101,7 +179,7 @@ fn add_call(file: &CifFile, found: &mut IndexSet<u32>, item: &Item) -> Result<()
 }
 
 /// The number that the item calls, if a symbol has it.
-fn defined_call(file: &CifFile, item: &Item) -> Option<u32>
+pub(crate) fn defined_call(file: &CifFile, item: &Item) -> Option<u32>
     ensures found { IfSome result (λ n. (called_by item.now.what ≡ Some n) × (is_defined_lem file.now.symbols n ≡ true)) }
     ensures none { IfNone result ((n : ℕ) → called_by item.now.what ≡ Some n → is_defined_lem file.now.symbols n ≡ true → ⊥) }
 {

@@ -11,6 +11,7 @@
 
 mod calls;
 mod circles;
+mod components;
 mod corners;
 mod flat;
 mod flattening;

@@ -82,12 +82,16 @@ fn files_are_measured_and_recursion_is_found(rt: HostRuntime) -> Result<(), Fail
 }
 
 /// Texts, and the least symbol in each that calls itself.
-const CIRCLES: [(&str, Option<u32>); 5] = [
+const CIRCLES: [(&str, Option<u32>); 6] = [
     ("DS 1; DF; DS 2; C 1; DF; C 2; E", None),
     ("DS 1; C 2; DF; DS 2; C 1; DF; C 1; E", Some(1)),
     ("DS 1; DF; DS 3; C 3; DF; C 1; E", Some(3)),
     ("DS 1; C 2; DF; DS 2; C 5; DF; DS 5; C 2; DF; E", Some(2)),
     ("DS 1; C 7; DF; C 1; E", None),
+    (
+        "DS 1; C 4; DF; DS 4; C 3; DF; DS 5; C 4; C 2; DF; DS 3; C 5; DF; DS 2; DF; C 1; E",
+        Some(3),
+    ),
 ];
 
 #[test]

@@ -1,13 +1,10 @@
-use Rattle.std.proofs.Common.{ℕ, subst, take, ◌+◌, ◌≡◌, arith, ◌<◌, ◌≤◌, sym}
+use Rattle.std.proofs.Common.{subst, take, ◌+◌, arith, sym}
 use Rattle.cif_reader.specs.declared.file.Symbol.{Symbol}
 use Rattle.cif_flatten.specs.Faults.{undefined_among, undefined_in_symbols, IsFirstIfAny}
 use Rattle.cif_flatten.proofs.First.{step}
-use Rattle.cif_flatten.proofs.Lookups.{here, not_past}
+use Rattle.cif_flatten.proofs.Lookups.{here, no_end}
 use Rattle.cif_flatten.proofs.calls.in_symbols.Goals as goal
 use Rattle.cif_flatten.proofs.calls.in_symbols.Goals.{in-Some, in_default}
-
-ends : {i n m : ℕ} → m ≤ i → i < n → n ≡ m → ⊥
-ends a b d = omega (arith, a, b, d)
 
 pub loop-place-preserved : goal.loop-place-preserved
 loop-place-preserved c =
@@ -20,5 +17,5 @@ loop-place-preserved c =
           (step (λ (s : Symbol). undefined_among symbols s.items.items) symbols c.loop-place.place w.in-Some.symbol.now c.loop-place.first w.among.result w.earlier-first.result
           (omega (arith, c.loop-place-test.true, c.symbol_count-place-end.ensures)) c.loop-place.invariant
           (subst (λ (s : Symbol). IsFirstIfAny (undefined_among symbols s.items.items) w.among.result) at items) w.earlier-first.ensures)
-      | in_default w ↦ absurd (ends (not_past symbols c.loop-place.place w.in_default.ensures) c.loop-place-test.true c.symbol_count-place-end.ensures)
+      | in_default w ↦ absurd (no_end symbols c.loop-place.place w.in_default.ensures c.loop-place-test.true c.symbol_count-place-end.ensures)
     ]

@@ -1,15 +1,12 @@
-use Rattle.std.proofs.Common.{◌≡◌, ℕ, ◌+◌, ◌<◌, ◌≤◌, take, true, false, subst, sym, arith}
+use Rattle.std.proofs.Common.{◌≡◌, ◌+◌, take, true, false, subst, sym, arith}
 use Rattle.std.proofs.lemmas.List.{take_all}
 use Rattle.cif_reader.specs.declared.file.Symbol.{Symbol}
 use Rattle.cif_flatten.specs.Faults.{CallsThrough}
 use Rattle.cif_flatten.specs.Reaching.{IsLeastAmong, IsLesser}
-use Rattle.cif_flatten.proofs.Lookups.{here, not_past}
+use Rattle.cif_flatten.proofs.Lookups.{here, no_end}
 use Rattle.cif_flatten.proofs.Circling.{least_step}
 use Rattle.cif_flatten.proofs.circles.least_circle.Goals as goal
 use Rattle.cif_flatten.proofs.circles.least_circle.Goals.{in-Some+in_ok-calls_itself, in_default}
-
-ends : {i n m : ℕ} → m ≤ i → i < n → n ≡ m → ⊥
-ends a b d = omega (arith, a, b, d)
 
 pub loop-place-preserved : goal.loop-place-preserved
 loop-place-preserved c =
@@ -26,7 +23,7 @@ loop-place-preserved c =
           (subst (λ (x : Symbol). counts ≡ false → CallsThrough symbols x.number x.number → ⊥) at w.in_ok-calls_itself.ensures.no)
           w.lesser-least.ensures.none
           (subst (λ (x : Symbol). counts ≡ true → IsLesser c.loop-place.least x.number w.lesser-least.result) at w.lesser-least.ensures.less))
-      | in_default w ↦ absurd (ends (not_past symbols place w.in_default.ensures) c.loop-place-test.true c.symbol_count-place-end.ensures)
+      | in_default w ↦ absurd (no_end symbols place w.in_default.ensures c.loop-place-test.true c.symbol_count-place-end.ensures)
     ]
 
 pub returns : goal.returns

@@ -1,13 +1,10 @@
-use Rattle.std.proofs.Common.{◌≡◌, ℕ, ◌<◌, ◌≤◌, subst, sym, arith}
+use Rattle.std.proofs.Common.{subst, sym, arith}
 use Rattle.cif_reader.specs.declared.file.Symbol.{Symbol}
 use Rattle.cif_flatten.specs.Sizes.{Explored}
-use Rattle.cif_flatten.proofs.Lookups.{here, not_past}
+use Rattle.cif_flatten.proofs.Lookups.{here, no_end}
 use Rattle.cif_flatten.proofs.Exploring.{begun_more}
 use Rattle.cif_flatten.proofs.sizes.all_sizes.Goals as goal
 use Rattle.cif_flatten.proofs.sizes.all_sizes.Goals.{in-Some+in_ok-measure+else-not-branch, in_default}
-
-ends : {i n m : ℕ} → m ≤ i → i < n → n ≡ m → ⊥
-ends a b d = omega (arith, a, b, d)
 
 pub loop-place-preserved : goal.loop-place-preserved
 loop-place-preserved c =
@@ -22,5 +19,5 @@ loop-place-preserved c =
             begun = begun_more symbols c.loop-place.sizes c.match-symbol_at.sizes c.loop-place.place w.in-Some.symbol.now (omega (arith, c.loop-place-test.true, c.symbol_count-place-end.ensures)) c.loop-place.invariant.begun
                 (subst (λ (s : Symbol). Explored symbols c.loop-place.sizes c.match-symbol_at.sizes s.number) at found);
           }
-      | in_default w ↦ absurd (ends (not_past symbols c.loop-place.place w.in_default.ensures) c.loop-place-test.true c.symbol_count-place-end.ensures)
+      | in_default w ↦ absurd (no_end symbols c.loop-place.place w.in_default.ensures c.loop-place-test.true c.symbol_count-place-end.ensures)
     ]

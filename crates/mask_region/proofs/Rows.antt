@@ -1,5 +1,5 @@
 -- Rows of ends, passed and pushed one by one.
-use Rattle.std.proofs.Common.{◌≡◌, ℕ, ◌+◌, ◌<◌, ◌≤◌, ◌^◌, Bool, true, false, cond, not, List, [], ◌∷◌, ◌++◌, length, take, refl, sym, ap, ◌∙◌, subst, inl, inr, arith}
+use Rattle.std.proofs.Common.{◌≡◌, ℕ, zero, suc, ◌+◌, ◌-◌, ◌<◌, ◌≤◌, ◌^◌, Bool, true, false, cond, not, List, [], ◌∷◌, ◌++◌, length, take, refl, sym, ap, ◌∙◌, subst, inl, inr, arith}
 use mathlib.Core.Bool.{beq}
 use Rattle.std.specs.Prelude.{ℤ, pos, ◌≤ℤ◌, ◌<ℤ◌, int_lt}
 use Rattle.std.specs.List.{All}
@@ -10,9 +10,9 @@ use Rattle.std.proofs.lemmas.List.Elements.{All-more, All-weaker, All-push, All-
 use Rattle.plane_geom.specs.Bounds.{IsWithin}
 use Rattle.plane_geom.specs.Ends.{is_odd, flips}
 use Rattle.plane_geom.proofs.Ends.{odd_more, flips-push, flips-push_behind, flips-up_to, up_further}
-use Rattle.mask_region.specs.Joins.{joined}
-use Rattle.mask_region.specs.declared.ends.Joining.{Joining}
-use Rattle.mask_region.specs.Rows.{end_at, IsRising, IsRow, IsNextEnd, Turns, IsPast, IsTurned}
+use Rattle.mask_region.specs.Joins.{merged}
+use Rattle.mask_region.specs.declared.ends.Merging.{Merging}
+use Rattle.mask_region.specs.Rows.{end_at, IsRising, IsRow, IsNextEnd, Turns, IsPast, IsTurned, IsBelowFrom, IsSkipped}
 
 -- ---- one more end
 
@@ -97,10 +97,10 @@ turned_none ends x on odd rising before =
       turns = rw (← odd) (turns-stay ends x before);
     }
 
--- ---- the joined row
+-- ---- the merged row
 
--- The first i and j ends of two rows are joined into a third.
-pub record AreJoined (op : Joining) (a b : List ℤ) (i j : ℕ) (out : List ℤ) : Type 0 where
+-- The first i and j ends of two rows are merged into a third.
+pub record AreMerged (how : Merging) (a b : List ℤ) (i j : ℕ) (out : List ℤ) : Type 0 where
   pub a_row : IsRow a
   pub b_row : IsRow b
   pub a_in : i ≤ length a
@@ -109,8 +109,8 @@ pub record AreJoined (op : Joining) (a b : List ℤ) (i j : ℕ) (out : List ℤ
   pub b_before : (x : ℤ) → IsNextEnd a i b j x → All (λ t. t <ℤ x) (take j b)
   pub out_before : (x : ℤ) → IsNextEnd a i b j x → All (λ t. t <ℤ x) out
   pub rising : IsRising out
-  pub whole : is_odd (length out) ≡ joined op (is_odd i) (is_odd j)
-  pub cells : (z : ℤ) → flips out z ≡ joined op (flips (take i a) z) (flips (take j b) z)
+  pub whole : is_odd (length out) ≡ merged how (is_odd i) (is_odd j)
+  pub cells : (z : ℤ) → flips out z ≡ merged how (flips (take i a) z) (flips (take j b) z)
 
 not_same : (p q : Bool) → not (beq p q) ≡ true → p ≡ not q
 not_same true true h = cc
@@ -137,9 +137,9 @@ next_later a i0 i b j0 j x y pa pb n = elim n.one [ inl p ↦ rw p.1 (pa.ahead p
 further : (ends : List ℤ) (x y : ℤ) → x <ℤ y → All (λ t. t ≤ℤ x) ends → All (λ t. t <ℤ y) ends
 further ends x y up h = All-weaker (λ t. t ≤ℤ x) (λ t. t <ℤ y) (λ t le. omega (arith, ints)) ends h
 
-pub joined_more : (op : Joining) (a b : List ℤ) (i j : ℕ) (out : List ℤ) (x : ℤ) (i2 j2 : ℕ) (out2 : List ℤ) → AreJoined op a b i j out
-    → IsPast a i x i2 → IsPast b j x j2 → IsTurned out out2 x (joined op (is_odd i2) (is_odd j2)) → AreJoined op a b i2 j2 out2
-joined_more op a b i j out x i2 j2 out2 h pa pb t =
+pub merged_more : (how : Merging) (a b : List ℤ) (i j : ℕ) (out : List ℤ) (x : ℤ) (i2 j2 : ℕ) (out2 : List ℤ) → AreMerged how a b i j out
+    → IsPast a i x i2 → IsPast b j x j2 → IsTurned out out2 x (merged how (is_odd i2) (is_odd j2)) → AreMerged how a b i2 j2 out2
+merged_more how a b i j out x i2 j2 out2 h pa pb t =
     record {
       a_row = h.a_row;
       b_row = h.b_row;
@@ -151,6 +151,82 @@ joined_more op a b i j out x i2 j2 out2 h pa pb t =
       rising = t.rising;
       whole = t.whole;
       cells = λ z. by_lt_z z x
-          (λ lt. t.turns.kept z lt ∙ h.cells z ∙ (λ k. joined op (sym (pa.turns.kept z lt) k) (sym (pb.turns.kept z lt) k)))
-          (λ le. t.turns.now z le ∙ (λ k. joined op (sym (pa.turns.now z le) k) (sym (pb.turns.now z le) k)));
+          (λ lt. t.turns.kept z lt ∙ h.cells z ∙ (λ k. merged how (sym (pa.turns.kept z lt) k) (sym (pb.turns.kept z lt) k)))
+          (λ le. t.turns.now z le ∙ (λ k. merged how (sym (pa.turns.now z le) k) (sym (pb.turns.now z le) k)));
     }
+
+-- ---- ends that change nothing
+
+pub skip_second_one : (how : Merging) (a b : List ℤ) (i j : ℕ) (out : List ℤ) → AreMerged how a b i j out → j < length b → (i < length a → end_at b j <ℤ end_at a i)
+    → ((p q : Bool) → merged how (is_odd i) p ≡ merged how (is_odd i) q) → AreMerged how a b i (j + 1) out
+skip_second_one how a b i j out h lt below settled =
+    let x : ℤ = end_at b j in
+    let next : IsNextEnd a i b j x = record { in_a = λ l. (let b : end_at b j <ℤ end_at a i = below l in omega (arith, ints)); in_b = λ l. omega (arith, ints); one = inr (lt, refl) } in
+    merged_more how a b i j out x i (j + 1) out h (past_none a i x h.a_in below (h.a_before x next)) (past_more b j x lt h.b_row.rising refl (h.b_before x next))
+    (turned_none out x (merged how (is_odd i) (is_odd (j + 1))) (h.whole ∙ settled (is_odd j) (is_odd (j + 1))) h.rising (h.out_before x next))
+
+pub skip_first_one : (how : Merging) (a b : List ℤ) (i j : ℕ) (out : List ℤ) → AreMerged how a b i j out → i < length a → (j < length b → end_at a i <ℤ end_at b j)
+    → ((p q : Bool) → merged how p (is_odd j) ≡ merged how q (is_odd j)) → AreMerged how a b (i + 1) j out
+skip_first_one how a b i j out h lt below settled =
+    let x : ℤ = end_at a i in
+    let next : IsNextEnd a i b j x = record { in_a = λ l. omega (arith, ints); in_b = λ l. (let b : end_at a i <ℤ end_at b j = below l in omega (arith, ints)); one = inl (lt, refl) } in
+    merged_more how a b i j out x (i + 1) j out h (past_more a i x lt h.a_row.rising refl (h.a_before x next)) (past_none b j x h.b_in below (h.b_before x next))
+    (turned_none out x (merged how (is_odd (i + 1)) (is_odd j)) (h.whole ∙ settled (is_odd i) (is_odd (i + 1))) h.rising (h.out_before x next))
+
+-- what lies below the later end lies below the earlier one's limit
+skipped_before : (ends : List ℤ) (k : ℕ) (other : List ℤ) (l n : ℕ) → IsRising ends → IsSkipped ends k other l (k + suc n) → IsSkipped ends k other l (k + n)
+skipped_before ends k other l n rising h =
+    record {
+      in_range = omega (arith, h.in_range);
+      from = omega arith;
+      below = λ some in_other.
+          let last : end_at ends (k + suc n - 1) <ℤ end_at other l = h.below (omega arith) in_other in
+          let rise : end_at ends (k + n - 1) <ℤ end_at ends (k + n - 1 + 1) = rising.each (k + n - 1) (omega (arith, h.in_range)) in
+          let same : k + n - 1 + 1 ≡ k + suc n - 1 = omega arith in
+          let up : end_at ends (k + n - 1) <ℤ end_at ends (k + suc n - 1) = rw (← same) rise in
+          omega (arith, ints);
+    }
+
+skip_second_by : (n : ℕ) (how : Merging) (a b : List ℤ) (i j : ℕ) (out : List ℤ) → AreMerged how a b i j out → IsSkipped b j a i (j + n)
+    → (j < j + n → (p q : Bool) → merged how (is_odd i) p ≡ merged how (is_odd i) q) → AreMerged how a b i (j + n) out
+skip_second_by zero how a b i j out h skipped settled =
+    let P : ℕ → Type 0 = λ m. AreMerged how a b i m out in
+    let same : j ≡ j + 0 = omega arith in
+    subst P same h
+skip_second_by (suc n) how a b i j out h skipped settled =
+    let before : AreMerged how a b i (j + n) out = skip_second_by n how a b i j out h (skipped_before b j a i n h.b_row.rising skipped) (λ some. settled (omega arith)) in
+    let same : j + suc n - 1 ≡ j + n = omega arith in
+    let one : j + n + 1 ≡ j + suc n = omega arith in
+    let P : ℕ → Type 0 = λ m. AreMerged how a b i m out in
+    subst P one
+    (skip_second_one how a b i (j + n) out before (omega (arith, skipped.in_range)) (λ l. rw (← same) (skipped.below (omega arith) l)) (settled (omega arith)))
+
+skip_first_by : (n : ℕ) (how : Merging) (a b : List ℤ) (i j : ℕ) (out : List ℤ) → AreMerged how a b i j out → IsSkipped a i b j (i + n)
+    → (i < i + n → (p q : Bool) → merged how p (is_odd j) ≡ merged how q (is_odd j)) → AreMerged how a b (i + n) j out
+skip_first_by zero how a b i j out h skipped settled =
+    let P : ℕ → Type 0 = λ m. AreMerged how a b m j out in
+    let same : i ≡ i + 0 = omega arith in
+    subst P same h
+skip_first_by (suc n) how a b i j out h skipped settled =
+    let before : AreMerged how a b (i + n) j out = skip_first_by n how a b i j out h (skipped_before a i b j n h.a_row.rising skipped) (λ some. settled (omega arith)) in
+    let same : i + suc n - 1 ≡ i + n = omega arith in
+    let one : i + n + 1 ≡ i + suc n = omega arith in
+    let P : ℕ → Type 0 = λ m. AreMerged how a b m j out in
+    subst P one
+    (skip_first_one how a b (i + n) j out before (omega (arith, skipped.in_range)) (λ l. rw (← same) (skipped.below (omega arith) l)) (settled (omega arith)))
+
+pub skip_second : (how : Merging) (a b : List ℤ) (i j : ℕ) (out : List ℤ) (r : ℕ) → AreMerged how a b i j out → IsSkipped b j a i r
+    → (j < r → (p q : Bool) → merged how (is_odd i) p ≡ merged how (is_odd i) q) → AreMerged how a b i r out
+skip_second how a b i j out r h skipped settled =
+    let same : j + (r - j) ≡ r = omega (arith, skipped.from) in
+    let P : ℕ → Type 0 = λ m. AreMerged how a b i m out in
+    let Q : ℕ → Type 0 = λ m. IsSkipped b j a i m in
+    subst P same (skip_second_by (r - j) how a b i j out h (subst Q (sym same) skipped) (λ some. settled (omega arith)))
+
+pub skip_first : (how : Merging) (a b : List ℤ) (i j : ℕ) (out : List ℤ) (r : ℕ) → AreMerged how a b i j out → IsSkipped a i b j r
+    → (i < r → (p q : Bool) → merged how p (is_odd j) ≡ merged how q (is_odd j)) → AreMerged how a b r j out
+skip_first how a b i j out r h skipped settled =
+    let same : i + (r - i) ≡ r = omega (arith, skipped.from) in
+    let P : ℕ → Type 0 = λ m. AreMerged how a b m j out in
+    let Q : ℕ → Type 0 = λ m. IsSkipped a i b j m in
+    subst P same (skip_first_by (r - i) how a b i j out h (subst Q (sym same) skipped) (λ some. settled (omega arith)))

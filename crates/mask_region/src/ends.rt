@@ -1,36 +1,88 @@
-ghost use Rattle.std.specs.Prelude.{◌≡◌, ◌^◌, ◌<◌, ◌≤◌, ℤ, ◌≤ℤ◌, ◌<ℤ◌, length, take, OnOk, IfSome};
+ghost use Rattle.std.specs.Prelude.{◌≡◌, ◌^◌, ◌<◌, ◌≤◌, ℤ, ◌≤ℤ◌, ◌<ℤ◌, Bool, true, length, take, OnOk, IfSome};
 ghost use Rattle.std.specs.List.{All};
 ghost use Rattle.plane_geom.specs.Bounds.{IsWithin};
-ghost use Rattle.plane_geom.specs.Ends.{flips};
-ghost use Rattle.mask_region.specs.Joins.{joined};
-ghost use Rattle.mask_region.specs.Rows.{end_at, IsRising, IsRow, IsNextEnd, IsPast, IsTurned};
+ghost use Rattle.plane_geom.specs.Ends.{is_odd, flips};
+ghost use Rattle.mask_region.specs.Joins.{merged};
+ghost use Rattle.mask_region.specs.Rows.{end_at, IsRising, IsRow, IsNextEnd, IsPast, IsTurned, IsBelowFrom, IsSkipped};
 
 use std::alloc::AllocError;
 
-/// How two sets are joined: what is in one of them, what is in both, or what is in the first alone.
+/// How two rows are merged: what is in both, what is in the first alone, or what is in one of them alone.
 #[derive(Clone, Copy, Debug, PartialEq, Eq)]
-pub(crate) enum Joining {
-    Union,
-    Meet,
-    Minus,
+pub(crate) enum Merging {
+    Both,
+    FirstAlone,
+    OneAlone,
 }
 
-impl Joining {
-    /// Whether something is in the joined set, where it is or isn't in the first and in the second.
+impl Merging {
+    /// Whether something is in the merged row, where it is or isn't in the first and in the second.
     fn of(self, first: bool, second: bool) -> bool
-        ensures { result ≡ joined self first second }
+        ensures { result ≡ merged self first second }
     {
         match self {
-            Joining::Union => first || second,
-            Joining::Meet => first && second,
-            Joining::Minus => first && !second,
+            Merging::Both => first && second,
+            Merging::FirstAlone => first && !second,
+            Merging::OneAlone => first != second,
+        }
+    }
+
+    /// Whether this value of the first settles the merged one, whatever the second is.
+    fn is_settled_by_first(self, first: bool) -> bool
+        ensures { result ≡ true → (p q : Bool) → merged self first p ≡ merged self first q }
+    {
+        match self {
+            Merging::Both | Merging::FirstAlone => !first,
+            Merging::OneAlone => false,
+        }
+    }
+
+    /// Whether this value of the second settles the merged one, whatever the first is.
+    fn is_settled_by_second(self, second: bool) -> bool
+        ensures { result ≡ true → (p q : Bool) → merged self p second ≡ merged self q second }
+    {
+        match self {
+            Merging::Both => !second,
+            Merging::FirstAlone => second,
+            Merging::OneAlone => false,
+        }
+    }
+
+    /// The index in `b` behind the ends that change nothing, since `a` settles what is merged up to its end with
+    /// index `i`.
+    fn skip_second(self, a: &[i32], i: usize, b: &[i32], j: usize) -> usize
+        requires rising { IsRising b.now }
+        requires in_range { j ≤ length b.now }
+        ensures skipped { IsSkipped b.now j a.now i result }
+        ensures settled { j < result → (p q : Bool) → merged self (is_odd i) p ≡ merged self (is_odd i) q }
+    {
+        if self.is_settled_by_first(i % 2 == 1) {
+            skip(b, j, a, i)
+        } else {
+            j
+        }
+    }
+
+    /// The index in `a` behind the ends that change nothing, since `b` settles what is merged up to its end with
+    /// index `j`.
+    fn skip_first(self, a: &[i32], i: usize, b: &[i32], j: usize) -> usize
+        requires rising { IsRising a.now }
+        requires in_range { i ≤ length a.now }
+        ensures skipped { IsSkipped a.now i b.now j result }
+        ensures settled { i < result → (p q : Bool) → merged self p (is_odd j) ≡ merged self q (is_odd j) }
+    {
+        if self.is_settled_by_second(j % 2 == 1) {
+            skip(a, i, b, j)
+        } else {
+            i
         }
     }
 }
 
-/// Writes the ends of the joined row, where `a` and `b` are the ends of two rows.
-pub(crate) fn join_rows(
-    op: Joining,
+/// Writes the ends of the merged row, where `a` and `b` are the ends of two rows. Where one of them settles what is
+/// merged, the ends of the other are skipped.
+pub(crate) fn merge_rows(
+    how: Merging,
     a: &[i32],
     b: &[i32],
     out: &mut Vec<i32>,
@@ -38,7 +90,7 @@ pub(crate) fn join_rows(
     requires first { IsRow a.now }
     requires second { IsRow b.now }
     ensures row { OnOk result (IsRow out.new.items) }
-    ensures cells { OnOk result ((x : ℤ) → flips out.new.items x ≡ joined op (flips a.now x) (flips b.now x)) }
+    ensures cells { OnOk result ((x : ℤ) → flips out.new.items x ≡ merged how (flips a.now x) (flips b.now x)) }
 {
     out.clear();
     let mut i = 0;
@@ -46,7 +98,9 @@ pub(crate) fn join_rows(
     while let Some(x) = next_end(a, i, b, j) {
         i = past(a, i, x);
         j = past(b, j, x);
-        turn(out, x, op.of(i % 2 == 1, j % 2 == 1))?;
+        turn(out, x, how.of(i % 2 == 1, j % 2 == 1))?;
+        j = how.skip_second(a, i, b, j);
+        i = how.skip_first(a, i, b, j);
     }
     Ok(())
 }
@@ -91,4 +145,50 @@ fn turn(ends: &mut Vec<i32>, x: i32, on: bool) -> Result<(), AllocError>
         ends.push(x)?;
     }
     Ok(())
+}
+
+/// The index of the first end from index `k` on that does not lie below the end of `other` with index `l`; behind all
+/// ends, where `other` has no such end.
+fn skip(ends: &[i32], k: usize, other: &[i32], l: usize) -> usize
+    requires rising { IsRising ends.now }
+    requires in_range { k ≤ length ends.now }
+    ensures { IsSkipped ends.now k other.now l result }
+{
+    match other.get(l) {
+        Some(limit) => first_from(ends, k, *limit),
+        None => ends.len(),
+    }
+}
+
+/// The index of the first end from index `k` on that does not lie below `limit`. The search goes on by steps twice as
+/// long each time, and then halves the last one: it is the faster the nearer that end is.
+fn first_from(ends: &[i32], k: usize, limit: i32) -> usize
+    requires in_range { k ≤ length ends.now }
+    ensures { IsBelowFrom ends.now k limit result }
+{
+    let mut low = k;
+    while is_below(ends, 2 * low - k, limit) {
+        low = 2 * low - k + 1;
+    }
+    let mut high = if 2 * low - k < ends.len() {
+        2 * low - k
+    } else {
+        ends.len()
+    };
+    while low < high {
+        let middle = low + (high - low) / 2;
+        if ends[middle] < limit {
+            low = middle + 1;
+        } else {
+            high = middle;
+        }
+    }
+    low
+}
+
+/// Whether there is an end with index `k`, below `limit`.
+fn is_below(ends: &[i32], k: usize, limit: i32) -> bool
+    ensures { result ≡ true → (k < length ends.now) × (end_at ends.now k <ℤ limit) }
+{
+    k < ends.len() && ends[k] < limit
 }

@@ -1,5 +1,5 @@
 -- Two banded lists, joined band by band.
-use Rattle.std.proofs.Common.{◌≡◌, ℕ, ◌+◌, ◌≤◌, ◌^◌, Bool, true, false, ◌&&◌, ◌||◌, List, [], length, take, drop, refl, sym, ap, ◌∙◌, subst, arith}
+use Rattle.std.proofs.Common.{◌≡◌, ℕ, ◌+◌, ◌≤◌, ◌^◌, Bool, true, false, ◌&&◌, ◌||◌, List, [], length, take, drop, refl, sym, ap, ◌∙◌, subst, ◌⊎◌, inl, inr, arith}
 use Rattle.std.specs.Prelude.{ℤ, pos, neg_ℤ, ◌+ℤ◌, ◌-ℤ◌, ◌≤ℤ◌, ◌<ℤ◌}
 use Rattle.std.specs.List.{AllByRecursion}
 use Rattle.std.proofs.lemmas.Int.{ints, by_lt_z}
@@ -10,13 +10,12 @@ use Rattle.plane_geom.specs.Bounds.{IsWithin}
 use Rattle.plane_geom.specs.Cells.{is_between}
 use Rattle.plane_geom.specs.Ends.{flips}
 use Rattle.mask_region.specs.declared.strips.Strip.{Strip}
-use Rattle.mask_region.specs.declared.bands.Joining.{Joining}
-use Rattle.mask_region.specs.declared.bands.Joining.TheVariants.{Union, Meet, Minus}
-use Rattle.mask_region.specs.declared.ends.Merging.{Merging}
-use Rattle.mask_region.specs.Joins.{joined, merged, differ}
+use Rattle.mask_region.specs.declared.ends.Joining.{Joining}
+use Rattle.mask_region.specs.declared.ends.Joining.TheVariants.{Union, Meet, Minus}
+use Rattle.mask_region.specs.Joins.{joined}
 use Rattle.mask_region.specs.Rows.{IsRow}
 use Rattle.mask_region.specs.Strips.{is_in_strip, is_in, IsStrip, Banded}
-use Rattle.mask_region.specs.Sweeping.{ArePassed, IsFree, IsEdge, IsRowOf, IsSteady, IsSplitAt, is_shown, IsShown}
+use Rattle.mask_region.specs.Sweeping.{ArePassed, IsFree, IsEdge, IsRowOf, IsSteady, row_before, IsSplitAt, is_shown, IsShown}
 use Rattle.mask_region.proofs.Banding.{all_as, all_with, all_strips, none_above, passed_none, passed_further}
 
 -- The rows at y are those of the two sets, and below y the strips and the held band are the joined set.
@@ -152,38 +151,20 @@ joined_up_to op a b i j y row_a row_b out held from next x z h edge_a edge_b up 
 pub shown_to : (out : List Strip) (held : List ℤ) (from y next : ℤ) → IsShown out held from y → y <ℤ next → IsShown out held from next
 shown_to out held from y next h up = record { banded = h.banded; passed = h.passed; row = h.row; low = h.low; order = omega (arith, ints, h.order) }
 
--- ---- what changes
+-- ---- a joined row that stays
 
-differ_twice : (p q : Bool) → differ p (differ p q) ≡ q
-differ_twice true true = refl
-differ_twice true false = refl
-differ_twice false q = refl
+pub stays_by_first : (op : Joining) (on p p2 q : Bool) → ((s t : Bool) → joined op s on ≡ joined op t on) → (p ≡ p2) ⊎ (q ≡ on) → joined op p q ≡ joined op p2 q
+stays_by_first op on p p2 q settles h = elim h [ inl same ↦ ap (λ r. joined op r q) same | inr settled ↦ rw settled (settles p p2) ]
 
-differ_via : (p q r : Bool) → differ (differ p q) (differ q r) ≡ differ p r
-differ_via true true r = refl
-differ_via true false true = refl
-differ_via true false false = refl
-differ_via false true true = refl
-differ_via false true false = refl
-differ_via false false r = refl
+pub stays_by_second : (op : Joining) (on p q q2 : Bool) → ((s t : Bool) → joined op on s ≡ joined op on t) → (q ≡ q2) ⊎ (p ≡ on) → joined op p q ≡ joined op p q2
+stays_by_second op on p q q2 settles h = elim h [ inl same ↦ ap (λ r. joined op p r) same | inr settled ↦ rw settled (settles q q2) ]
 
--- The joined row changes by what the change of the first row and that of the second change in it.
-changed_to : (op : Joining) (first second : Merging) (p p2 q q2 : Bool) → ((s t r : Bool) → differ (joined op s r) (joined op t r) ≡ merged first (differ s t) r)
-    → ((r s t : Bool) → differ (joined op r s) (joined op r t) ≡ merged second (differ s t) r)
-    → differ (joined op p q) (differ (merged first (differ p p2) q) (merged second (differ q q2) p2)) ≡ joined op p2 q2
-changed_to op first second p p2 q q2 by_first by_second =
-    (λ k. differ (joined op p q) (differ (sym (by_first p p2 q) k) (sym (by_second p2 q q2) k)))
-    ∙ ap (λ d. differ (joined op p q) d) (differ_via (joined op p q) (joined op p2 q) (joined op p2 q2))
-    ∙ differ_twice (joined op p q) (joined op p2 q2)
-
-pub now_changed : (op : Joining) (first second : Merging) (row_a row_b row_a2 row_b2 held held2 change_a change_b by_a by_b change : List ℤ) (x : ℤ)
-    → ((s t r : Bool) → differ (joined op s r) (joined op t r) ≡ merged first (differ s t) r) → ((r s t : Bool) → differ (joined op r s) (joined op r t) ≡ merged second (differ s t) r)
-    → flips held x ≡ joined op (flips row_a x) (flips row_b x) → flips change_a x ≡ differ (flips row_a x) (flips row_a2 x) → flips by_a x ≡ merged first (flips change_a x) (flips row_b x)
-    → flips change_b x ≡ differ (flips row_b x) (flips row_b2 x) → flips by_b x ≡ merged second (flips change_b x) (flips row_a2 x)
-    → flips change x ≡ differ (flips by_a x) (flips by_b x) → flips held2 x ≡ differ (flips held x) (flips change x) → flips held2 x ≡ joined op (flips row_a2 x) (flips row_b2 x)
-now_changed op first second row_a row_b row_a2 row_b2 held held2 change_a change_b by_a by_b change x by_first by_second now a_changes a_shows b_changes b_shows changes turns =
-    rw (turns, now, changes, a_shows, a_changes, b_shows, b_changes)
-    (changed_to op first second (flips row_a x) (flips row_a2 x) (flips row_b x) (flips row_b2 x) by_first by_second)
+pub still_joined : (op : Joining) (is_new_a : Bool) (old_a row_a below_a : List ℤ) (is_new_b : Bool) (old_b row_b below_b : List ℤ) (held : List ℤ) (x : ℤ)
+    → row_before is_new_a old_a row_a ≡ below_a → row_before is_new_b old_b row_b ≡ below_b
+    → joined op (flips (row_before is_new_a old_a row_a) x) (flips (row_before is_new_b old_b row_b) x) ≡ joined op (flips row_a x) (flips row_b x)
+    → flips held x ≡ joined op (flips below_a x) (flips below_b x) → flips held x ≡ joined op (flips row_a x) (flips row_b x)
+still_joined op is_new_a old_a row_a below_a is_new_b old_b row_b below_b held x same_a same_b stays now =
+    now ∙ (λ k. joined op (flips (sym same_a k) x) (flips (sym same_b k) x)) ∙ stays
 
 pub join_more : (op : Joining) (a b : List Strip) (i j : ℕ) (y : ℤ) (row_a row_b : List ℤ) (out : List Strip) (held : List ℤ) (from next : ℤ) (row_a2 row_b2 : List ℤ) (out2 : List Strip) (held2 : List ℤ) (from2 : ℤ) (i2 j2 : ℕ)
     → AreJoinedTo op a b i j y row_a row_b out held from → IsEdge (drop i a) y next → IsEdge (drop j b) y next → IsSplitAt a next i2 → IsSplitAt b next j2

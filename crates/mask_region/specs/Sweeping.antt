@@ -1,5 +1,5 @@
 -- The sweep over the strips of a region, row by row.
-use Rattle.std.specs.Prelude.{◌≡◌, ℕ, ◌<◌, ◌≤◌, ◌^◌, ℤ, pos, ◌≤ℤ◌, ◌<ℤ◌, neg_ℤ, Bool, not, int_lt, ◌&&◌, ◌||◌, List, take, drop, length}
+use Rattle.std.specs.Prelude.{◌≡◌, ℕ, ◌<◌, ◌≤◌, ◌^◌, ℤ, pos, ◌≤ℤ◌, ◌<ℤ◌, neg_ℤ, Bool, true, false, not, int_lt, ◌&&◌, ◌||◌, List, take, drop, length}
 use Rattle.std.specs.List.{AllByRecursion}
 use Rattle.plane_geom.specs.Cells.{is_between}
 use Rattle.plane_geom.specs.Ends.{flips}
@@ -34,6 +34,16 @@ pub record IsRowOf (strips : List Strip) (y : ℤ) (ends : List ℤ) : Type 0 wh
 -- No strip begins at the row y.
 pub record IsSteady (strips : List Strip) (y : ℤ) : Type 0 where
   pub each : AllByRecursion (λ s. s.y0 ≡ y → ⊥) strips
+
+-- the ends of the row below: those of the old row, where the row is new
+abbrev pub row_before : Bool → List ℤ → List ℤ → List ℤ
+row_before true old row = old
+row_before false old row = row
+
+-- With the old row, where the row is new, the ends are those of the row below.
+pub record IsRowBefore (is_new : Bool) (old row below : List ℤ) : Type 0 where
+  pub is_row : is_new ≡ true → IsRow old
+  pub is_before : row_before is_new old row ≡ below
 
 -- The strips up to index r end below the row y, and the others reach above it.
 pub record IsSplitAt (strips : List Strip) (y : ℤ) (r : ℕ) : Type 0 where

@@ -1,12 +1,12 @@
-ghost use Rattle.std.specs.Prelude.{◌≡◌, ◌^◌, ◌<◌, ◌≤◌, ℤ, Bool, true, pos, neg_ℤ, ◌≤ℤ◌, ◌<ℤ◌, ◌||◌, ◌&&◌, length, take, drop, OnOk, IfOk, IfSome};
+ghost use Rattle.std.specs.Prelude.{◌≡◌, ◌^◌, ◌<◌, ◌≤◌, ℤ, true, pos, neg_ℤ, ◌≤ℤ◌, ◌<ℤ◌, ◌||◌, ◌&&◌, length, take, drop, OnOk, IfOk, IfSome};
 ghost use Rattle.plane_geom.specs.Cells.{is_between};
 ghost use Rattle.plane_geom.specs.Ends.{flips};
-ghost use Rattle.mask_region.specs.Joins.{joined, merged, differ};
+ghost use Rattle.mask_region.specs.Joins.{joined};
 ghost use Rattle.mask_region.specs.Rows.{IsRow};
 ghost use Rattle.mask_region.specs.Strips.{is_in, Banded};
-ghost use Rattle.mask_region.specs.Sweeping.{AreAhead, ArePassed, IsEdge, IsRowOf, IsSteady, IsSplitAt, IsShown, is_shown};
+ghost use Rattle.mask_region.specs.Sweeping.{AreAhead, ArePassed, IsEdge, IsRowOf, IsSteady, row_before, IsRowBefore, IsSplitAt, IsShown, is_shown};
 
-use crate::ends::{Merging, merge_rows};
+use crate::ends::{Joining, are_alike_but, join_rows};
 use crate::strips::Strip;
 use std::alloc::{AllocError, Global};
 use std::mem;
@@ -14,38 +14,9 @@ use std::mem;
 /// A row below all that a region may have, in mask units.
 const BELOW: i32 = -33_554_433;
 
-/// How two sets are joined: what is in one of them, what is in both, or what is in the first alone.
-#[derive(Clone, Copy, Debug, PartialEq, Eq)]
-pub(crate) enum Joining {
-    Union,
-    Meet,
-    Minus,
-}
-
-impl Joining {
-    /// How a change of the first set is merged with the second, so that the change of the joined set results.
-    fn change_by_first(self) -> Merging
-        ensures { (p q r : Bool) → differ (joined self p r) (joined self q r) ≡ merged result (differ p q) r }
-    {
-        match self {
-            Joining::Union | Joining::Minus => Merging::FirstAlone,
-            Joining::Meet => Merging::Both,
-        }
-    }
-
-    /// How a change of the second set is merged with the first, so that the change of the joined set results.
-    fn change_by_second(self) -> Merging
-        ensures { (p q r : Bool) → differ (joined self p q) (joined self p r) ≡ merged result (differ q r) p }
-    {
-        match self {
-            Joining::Union => Merging::FirstAlone,
-            Joining::Meet | Joining::Minus => Merging::Both,
-        }
-    }
-}
-
 /// The strips of the joined set, where `a` and `b` are those of two sets. Rows that are alike are put into one band.
-/// At each edge of a band only what changes in one set, and by that in the joined set, is followed up.
+/// At each edge of a band a row is read where its set changes there, and the two rows are joined anew only where the
+/// joined row may change.
 pub(crate) fn join(
     alloc: Global,
     op: Joining,
@@ -61,44 +32,32 @@ pub(crate) fn join(
     let mut held = Vec::new(alloc);
     let mut row_a = Vec::new(alloc);
     let mut row_b = Vec::new(alloc);
-    let mut change = Vec::new(alloc);
-    let mut by_a = Vec::new(alloc);
-    let mut by_b = Vec::new(alloc);
-    let mut spare = Vec::new(alloc);
+    let mut old_a = Vec::new(alloc);
+    let mut old_b = Vec::new(alloc);
+    let mut row = Vec::new(alloc);
     let mut i = 0;
     let mut j = 0;
     let mut from = BELOW;
     let mut y = BELOW;
     while let Some(next) = next_edges(a, i, b, j, y) {
-        i = advance(a, i, next, &mut row_a, &mut change, &mut spare)?;
-        merge_rows(
-            op.change_by_first(),
-            change.as_slice(),
-            row_b.as_slice(),
-            &mut by_a,
-        )?;
-        j = advance(b, j, next, &mut row_b, &mut change, &mut spare)?;
-        merge_rows(
-            op.change_by_second(),
-            change.as_slice(),
-            row_a.as_slice(),
-            &mut by_b,
-        )?;
-        merge_rows(
-            Merging::OneAlone,
-            by_a.as_slice(),
-            by_b.as_slice(),
-            &mut change,
-        )?;
-        from = hold(
-            &mut out,
-            &mut held,
-            from,
-            next,
-            change.as_slice(),
-            &mut spare,
-        )?;
+        let step_a = advance(a, i, next, &mut row_a, &mut old_a)?;
+        let step_b = advance(b, j, next, &mut row_b, &mut old_b)?;
+        i = step_a.index;
+        j = step_b.index;
         y = next;
+        if stays(
+            op,
+            step_a.is_new,
+            old_a.as_slice(),
+            row_a.as_slice(),
+            step_b.is_new,
+            old_b.as_slice(),
+            row_b.as_slice(),
+        ) {
+            continue;
+        }
+        join_rows(op, row_a.as_slice(), row_b.as_slice(), &mut row)?;
+        from = hold(&mut out, &mut held, from, y, &mut row)?;
     }
     put_row(&mut out, held.as_slice(), from, y)?;
     Ok(out)
@@ -153,35 +112,70 @@ fn pass(strips: &[Strip], i: usize, y: i32) -> usize
     strips.len()
 }
 
-/// Goes on to the row `y`, where `row` has the ends of the row below: writes the ends of the row, and as `change` those
-/// of the places where the two differ. The answer is the index of the first strip that reaches above the row.
+/// A step up to a row: the index of the first strip that reaches above it, and whether its ends are new, and were
+/// written.
+#[derive(Clone, Copy, Debug, PartialEq, Eq)]
+struct Step {
+    index: usize,
+    is_new: bool,
+}
+
+/// Goes on to the row `y`, where `row` has the ends of the row below. Where a strip begins or ends there, the ends of the
+/// row are written, and `old` gets those of the row below.
 fn advance(
     strips: &[Strip],
     i: usize,
     y: i32,
     row: &mut Vec<i32>,
-    change: &mut Vec<i32>,
-    spare: &mut Vec<i32>,
-) -> Result<usize, AllocError>
+    old: &mut Vec<i32>,
+) -> Result<Step, AllocError>
     requires in_range { i ≤ length strips.now }
     requires banded { Banded strips.now }
     requires passed { ArePassed (take i strips.now) y }
     requires row { IsRow row.old.items }
     requires steady { IsSteady (drop i strips.now) y → IsRowOf (drop i strips.now) y row.old.items }
-    ensures split { IfOk result (λ r. IsSplitAt strips.now y r) }
-    ensures row { IfOk result (λ r. IsRowOf (drop r strips.now) y row.new.items) }
-    ensures change { IfOk result (λ _. IsRow change.new.items) }
-    ensures cells { IfOk result (λ _. (x : ℤ) → flips change.new.items x ≡ differ (flips row.old.items x) (flips row.new.items x)) }
+    ensures split { IfOk result (λ r. IsSplitAt strips.now y r.index) }
+    ensures row { IfOk result (λ r. IsRowOf (drop r.index strips.now) y row.new.items) }
+    ensures before { IfOk result (λ r. IsRowBefore r.is_new old.new.items row.new.items row.old.items) }
 {
-    let k = pass(strips, i, y);
-    if is_steady(strips, i, k, y) {
-        change.clear();
-        return Ok(k);
+    let index = pass(strips, i, y);
+    if is_steady(strips, i, index, y) {
+        let is_new = false;
+        return Ok(Step { index, is_new });
     }
-    read_row(strips, k, y, spare)?;
-    merge_rows(Merging::OneAlone, row.as_slice(), spare.as_slice(), change)?;
-    mem::swap(row, spare);
-    Ok(k)
+    read_row(strips, index, y, old)?;
+    mem::swap(row, old);
+    let is_new = true;
+    Ok(Step { index, is_new })
+}
+
+/// Whether the joined row is known to be that of the row below, where each of the two rows is new and comes after an old
+/// one, or is that of the row below.
+fn stays(
+    op: Joining,
+    is_new_a: bool,
+    old_a: &[i32],
+    row_a: &[i32],
+    is_new_b: bool,
+    old_b: &[i32],
+    row_b: &[i32],
+) -> bool
+    requires row_a { IsRow row_a.now }
+    requires row_b { IsRow row_b.now }
+    requires old_a { is_new_a ≡ true → IsRow old_a.now }
+    requires old_b { is_new_b ≡ true → IsRow old_b.now }
+    ensures { result ≡ true → (x : ℤ) → joined op (flips (row_before is_new_a old_a.now row_a.now) x) (flips (row_before is_new_b old_b.now row_b.now) x) ≡ joined op (flips row_a.now x) (flips row_b.now x) }
+{
+    if is_new_a {
+        if is_new_b {
+            return false;
+        }
+        return are_alike_but(old_a, row_a, row_b, op.settling_second());
+    }
+    if is_new_b {
+        return are_alike_but(old_b, row_b, row_a, op.settling_first());
+    }
+    true
 }
 
 /// Whether the strips from index `k` on are those from index `i` on, and none of them begins at the row `y`.
@@ -245,29 +239,27 @@ fn put_row(out: &mut Vec<Strip>, row: &[i32], y0: i32, y1: i32) -> Result<(), Al
     Ok(())
 }
 
-/// Where the row `y` differs from the band that is held back, puts that band and holds the row back in its place. The
-/// answer is the row where the held band begins.
+/// Where the ends of the row `y` are others than those of the band that is held back, puts that band and holds the
+/// row back in its place. The answer is the row where the held band begins.
 fn hold(
     out: &mut Vec<Strip>,
     held: &mut Vec<i32>,
     from: i32,
     y: i32,
-    change: &[i32],
-    spare: &mut Vec<i32>,
+    row: &mut Vec<i32>,
 ) -> Result<i32, AllocError>
     requires shown { IsShown out.old.items held.old.items from y }
     requires low { neg_ℤ (pos (2 ^ 25)) ≤ℤ y }
     requires high { y ≤ℤ pos (2 ^ 25) }
-    requires change { IsRow change.now }
+    requires row { IsRow row.old.items }
     ensures shown { IfOk result (λ r. IsShown out.new.items held.new.items r y) }
     ensures cells { IfOk result (λ r. (x z : ℤ) → is_shown out.new.items held.new.items r y x z ≡ is_shown out.old.items held.old.items from y x z) }
-    ensures now { IfOk result (λ _. (x : ℤ) → flips held.new.items x ≡ differ (flips held.old.items x) (flips change.now x)) }
+    ensures now { IfOk result (λ r. (x : ℤ) → flips held.new.items x ≡ flips row.old.items x) }
 {
-    if change.is_empty() {
+    if held.as_slice() == row.as_slice() {
         return Ok(from);
     }
     put_row(out, held.as_slice(), from, y)?;
-    merge_rows(Merging::OneAlone, held.as_slice(), change, spare)?;
-    mem::swap(held, spare);
+    mem::swap(held, row);
     Ok(y)
 }

@@ -3,7 +3,8 @@ ghost use Rattle.std.specs.List.{All};
 ghost use Rattle.mask_region.specs.Columns.{reaches, IsInColumns};
 ghost use Rattle.mask_region.specs.Strips.{is_in, Banded};
 
-use crate::bands::{Joining, join};
+use crate::bands::join;
+use crate::ends::Joining;
 use crate::strips::Strip;
 use std::alloc::{AllocError, Global};
 

@@ -1,77 +1,76 @@
-ghost use Rattle.std.specs.Prelude.{◌≡◌, ◌^◌, ◌<◌, ◌≤◌, ℤ, ◌≤ℤ◌, ◌<ℤ◌, Bool, true, length, take, OnOk, IfSome};
+ghost use Rattle.std.specs.Prelude.{◌≡◌, ◌^◌, ◌-◌, ◌<◌, ◌≤◌, ◌⊎◌, ℤ, ◌≤ℤ◌, ◌<ℤ◌, Bool, true, length, take, OnOk, IfSome};
 ghost use Rattle.std.specs.List.{All};
 ghost use Rattle.plane_geom.specs.Bounds.{IsWithin};
 ghost use Rattle.plane_geom.specs.Ends.{is_odd, flips};
-ghost use Rattle.mask_region.specs.Joins.{merged};
+ghost use Rattle.mask_region.specs.Joins.{joined};
 ghost use Rattle.mask_region.specs.Rows.{end_at, IsRising, IsRow, IsNextEnd, IsPast, IsTurned, IsBelowFrom, IsSkipped};
 
 use std::alloc::AllocError;
 
-/// How two rows are merged: what is in both, what is in the first alone, or what is in one of them alone.
+/// How two sets are joined: what is in one of them, what is in both, or what is in the first alone.
 #[derive(Clone, Copy, Debug, PartialEq, Eq)]
-pub(crate) enum Merging {
-    Both,
-    FirstAlone,
-    OneAlone,
+pub(crate) enum Joining {
+    Union,
+    Meet,
+    Minus,
 }
 
-impl Merging {
-    /// Whether something is in the merged row, where it is or isn't in the first and in the second.
+impl Joining {
+    /// Whether something is in the joined set, where it is or isn't in the first and in the second.
     fn of(self, first: bool, second: bool) -> bool
-        ensures { result ≡ merged self first second }
+        ensures { result ≡ joined self first second }
     {
         match self {
-            Merging::Both => first && second,
-            Merging::FirstAlone => first && !second,
-            Merging::OneAlone => first != second,
+            Joining::Union => first || second,
+            Joining::Meet => first && second,
+            Joining::Minus => first && !second,
         }
     }
 
-    /// Whether this value of the first settles the merged one, whatever the second is.
-    fn is_settled_by_first(self, first: bool) -> bool
-        ensures { result ≡ true → (p q : Bool) → merged self first p ≡ merged self first q }
+    /// Whether the first set settles the joined one where something is in it, or where it is not.
+    pub(crate) fn settling_first(self) -> bool
+        ensures { (p q : Bool) → joined self result p ≡ joined self result q }
     {
         match self {
-            Merging::Both | Merging::FirstAlone => !first,
-            Merging::OneAlone => false,
+            Joining::Union => true,
+            Joining::Meet | Joining::Minus => false,
         }
     }
 
-    /// Whether this value of the second settles the merged one, whatever the first is.
-    fn is_settled_by_second(self, second: bool) -> bool
-        ensures { result ≡ true → (p q : Bool) → merged self p second ≡ merged self q second }
+    /// Whether the second set settles the joined one where something is in it, or where it is not.
+    pub(crate) fn settling_second(self) -> bool
+        ensures { (p q : Bool) → joined self p result ≡ joined self q result }
     {
         match self {
-            Merging::Both => !second,
-            Merging::FirstAlone => second,
-            Merging::OneAlone => false,
+            Joining::Union | Joining::Minus => true,
+            Joining::Meet => false,
         }
     }
 
-    /// The index in `b` behind the ends that change nothing, since `a` settles what is merged up to its end with
+    /// The index in `b` behind the ends that change nothing, since `a` settles what is joined up to its end with
     /// index `i`.
     fn skip_second(self, a: &[i32], i: usize, b: &[i32], j: usize) -> usize
         requires rising { IsRising b.now }
         requires in_range { j ≤ length b.now }
         ensures skipped { IsSkipped b.now j a.now i result }
-        ensures settled { j < result → (p q : Bool) → merged self (is_odd i) p ≡ merged self (is_odd i) q }
+        ensures settled { j < result → (p q : Bool) → joined self (is_odd i) p ≡ joined self (is_odd i) q }
     {
-        if self.is_settled_by_first(i % 2 == 1) {
+        if (i % 2 == 1) == self.settling_first() {
             skip(b, j, a, i)
         } else {
             j
         }
     }
 
-    /// The index in `a` behind the ends that change nothing, since `b` settles what is merged up to its end with
+    /// The index in `a` behind the ends that change nothing, since `b` settles what is joined up to its end with
     /// index `j`.
     fn skip_first(self, a: &[i32], i: usize, b: &[i32], j: usize) -> usize
         requires rising { IsRising a.now }
         requires in_range { i ≤ length a.now }
         ensures skipped { IsSkipped a.now i b.now j result }
-        ensures settled { i < result → (p q : Bool) → merged self p (is_odd j) ≡ merged self q (is_odd j) }
+        ensures settled { i < result → (p q : Bool) → joined self p (is_odd j) ≡ joined self q (is_odd j) }
     {
-        if self.is_settled_by_second(j % 2 == 1) {
+        if (j % 2 == 1) == self.settling_second() {
             skip(a, i, b, j)
         } else {
             i
@@ -79,10 +78,10 @@ impl Merging {
     }
 }
 
-/// Writes the ends of the merged row, where `a` and `b` are the ends of two rows. Where one of them settles what is
-/// merged, the ends of the other are skipped.
-pub(crate) fn merge_rows(
-    how: Merging,
+/// Writes the ends of the joined row, where `a` and `b` are the ends of two rows. Where one of them settles what is
+/// joined, the ends of the other are skipped.
+pub(crate) fn join_rows(
+    op: Joining,
     a: &[i32],
     b: &[i32],
     out: &mut Vec<i32>,
@@ -90,7 +89,7 @@ pub(crate) fn merge_rows(
     requires first { IsRow a.now }
     requires second { IsRow b.now }
     ensures row { OnOk result (IsRow out.new.items) }
-    ensures cells { OnOk result ((x : ℤ) → flips out.new.items x ≡ merged how (flips a.now x) (flips b.now x)) }
+    ensures cells { OnOk result ((x : ℤ) → flips out.new.items x ≡ joined op (flips a.now x) (flips b.now x)) }
 {
     out.clear();
     let mut i = 0;
@@ -98,11 +97,69 @@ pub(crate) fn merge_rows(
     while let Some(x) = next_end(a, i, b, j) {
         i = past(a, i, x);
         j = past(b, j, x);
-        turn(out, x, how.of(i % 2 == 1, j % 2 == 1))?;
-        j = how.skip_second(a, i, b, j);
-        i = how.skip_first(a, i, b, j);
+        turn(out, x, op.of(i % 2 == 1, j % 2 == 1))?;
+        j = op.skip_second(a, i, b, j);
+        i = op.skip_first(a, i, b, j);
     }
     Ok(())
+}
+
+/// Whether the rows `old` and `new` are alike wherever `other` is not as `settling` says. Where the two differ, up to the
+/// next end of them, one binary search shows whether `other` is as it says all the way.
+pub(crate) fn are_alike_but(old: &[i32], new: &[i32], other: &[i32], settling: bool) -> bool
+    requires old { IsRow old.now }
+    requires new { IsRow new.now }
+    requires other { IsRow other.now }
+    ensures { result ≡ true → (x : ℤ) → (flips old.now x ≡ flips new.now x) ⊎ (flips other.now x ≡ settling) }
+{
+    let mut i = 0;
+    let mut j = 0;
+    while let Some(x) = next_end(old, i, new, j) {
+        i = past(old, i, x);
+        j = past(new, j, x);
+        if i % 2 == j % 2 {
+            continue;
+        }
+        if !is_all(other, x, next_end(old, i, new, j), settling) {
+            return false;
+        }
+    }
+    true
+}
+
+/// Whether the row is on, or off, as `on` says, all the way from `left` up to `right`; `None` is the end of the line.
+fn is_all(ends: &[i32], left: i32, right: Option<i32>, on: bool) -> bool
+    requires { IsRow ends.now }
+    ensures { result ≡ true → (z : ℤ) → left ≤ℤ z → IfSome right (λ r. z <ℤ r) → flips ends.now z ≡ on }
+{
+    let k = first_from(ends, 0, left.saturating_add(1));
+    if (k % 2 == 1) != on {
+        return false;
+    }
+    if !is_up_to(ends, k, left) {
+        return false;
+    }
+    match right {
+        Some(limit) => is_from(ends, k, limit),
+        None => k >= ends.len(),
+    }
+}
+
+/// Whether the ends up to index `k` lie at `x` or before.
+fn is_up_to(ends: &[i32], k: usize, x: i32) -> bool
+    requires rising { IsRising ends.now }
+    requires in_range { k ≤ length ends.now }
+    ensures { result ≡ true → 0 < k → end_at ends.now (k - 1) ≤ℤ x }
+{
+    k == 0 || ends[k - 1] <= x
+}
+
+/// Whether the ends from index `k` on lie at `x` or behind.
+fn is_from(ends: &[i32], k: usize, x: i32) -> bool
+    requires rising { IsRising ends.now }
+    ensures { result ≡ true → k < length ends.now → x ≤ℤ end_at ends.now k }
+{
+    k >= ends.len() || x <= ends[k]
 }
 
 /// The least end of `a` from index `i` on and of `b` from index `j` on.

@@ -4,7 +4,8 @@ ghost use Rattle.plane_geom.specs.Bounds.{IsRectWithin};
 ghost use Rattle.plane_geom.specs.Cells.{is_in_rect, is_in_rects};
 ghost use Rattle.mask_region.specs.Strips.{is_in_strip, is_in, IsStrip, Banded};
 
-use crate::bands::{Joining, join};
+use crate::bands::join;
+use crate::ends::Joining;
 use crate::strips::Strip;
 use plane_geom::Rect;
 use std::alloc::{AllocError, Global};

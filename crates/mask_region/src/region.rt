@@ -5,8 +5,9 @@ ghost use Rattle.plane_geom.specs.Cells.{is_in_rects, is_met, count_cells};
 ghost use Rattle.mask_region.specs.Joins.{joined};
 ghost use Rattle.mask_region.specs.Strips.{is_in, AreStripsWithin, Banded, HasCellAt};
 
-use crate::bands::{Joining, join};
+use crate::bands::join;
 use crate::columns::meet_strips;
+use crate::ends::Joining;
 use crate::rects::strips_of;
 use crate::sizes::{area_of, find_strip, grown_rects, has_cell};
 use crate::strips::Strip;

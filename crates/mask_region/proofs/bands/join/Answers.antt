@@ -1,6 +1,6 @@
 use Rattle.std.proofs.Common.{rules, ◌∙◌, arith, w32, FitsSigned, to_z, refl}
 use Rattle.std.proofs.lemmas.Int.{ints, to_z-of_z}
-use Rattle.mask_region.proofs.Joins.{join_start, join_more, join_end, split_further, row_steady, shown_to, now_changed, joined_up_to}
+use Rattle.mask_region.proofs.Joins.{join_start, join_more, join_end, split_further, row_steady, shown_to, still_joined, joined_up_to}
 use Rattle.mask_region.proofs.bands.join.Goals as goal
 
 pub loop-next-init : goal.loop-next-init
@@ -27,25 +27,38 @@ advance-requires-in-Some-clause-steady c steady =
     let f : FitsSigned w32 c.in-Some.next = search rules in
     simp to_z-of_z (row_steady _ (to_z w32 c.loop-next.y-bits) c.in-Some.next c.loop-next.row_b.items c.in-Some.ensures.in_b c.loop-next.invariant.b_row (simp to_z-of_z at steady))
 
+pub loop-next-preserved-then-stays : goal.loop-next-preserved-then-stays
+loop-next-preserved-then-stays c =
+    let f : FitsSigned w32 c.in-Some.next = search rules in
+    let h : FitsSigned w32 (to_z w32 c.loop-next.y-bits) = search rules in
+    let i : FitsSigned w32 (to_z w32 c.loop-next.from-bits) = search rules in
+    let kept = simp (c.as_slice.ensures.value, c.as_slice-in-Some.ensures.value, c.as_slice-in-Some-2.ensures.value, c.as_slice-in-Some-3.ensures.value) at c.if-stays.ensures in
+    simp to_z-of_z
+    (join_more c.args.op c.args.a.now c.args.b.now c.loop-next.i c.loop-next.j (to_z w32 c.loop-next.y-bits) c.loop-next.row_a.items c.loop-next.row_b.items c.loop-next.out.items c.loop-next.held.items
+    (to_z w32 c.loop-next.from-bits) c.in-Some.next _ _ _ _ _ _ _ c.loop-next.invariant
+    c.in-Some.ensures.in_a c.in-Some.ensures.in_b
+    (simp to_z-of_z at c.in_ok-step_a.ensures.split) (simp to_z-of_z at c.in_ok-step_b.ensures.split)
+    (simp to_z-of_z at c.in_ok-step_a.ensures.row) (simp to_z-of_z at c.in_ok-step_b.ensures.row)
+    (shown_to c.loop-next.out.items c.loop-next.held.items (to_z w32 c.loop-next.from-bits) (to_z w32 c.loop-next.y-bits) c.in-Some.next c.loop-next.invariant.shown c.in-Some.ensures.in_a.later)
+    (λ x z. refl)
+    (λ x. still_joined c.args.op c.in_ok-step_a.step_a.is_new _ _ c.loop-next.row_a.items c.in_ok-step_b.step_b.is_new _ _ c.loop-next.row_b.items c.loop-next.held.items x
+    c.in_ok-step_a.ensures.before.is_before c.in_ok-step_b.ensures.before.is_before (kept refl x) (c.loop-next.invariant.now x)))
+
 pub loop-next-preserved : goal.loop-next-preserved
 loop-next-preserved c =
     let f : FitsSigned w32 c.in-Some.next = search rules in
     let g : FitsSigned w32 c.in_ok-from.from = search rules in
     let h : FitsSigned w32 (to_z w32 c.loop-next.y-bits) = search rules in
     let i : FitsSigned w32 (to_z w32 c.loop-next.from-bits) = search rules in
-    let by_a = simp (c.as_slice.ensures.value, c.as_slice-in-Some.ensures.value) at c.in_ok-merge_rows.ensures.cells in
-    let by_b = simp (c.as_slice-in-Some-2.ensures.value, c.as_slice-in-Some-3.ensures.value) at c.in_ok-merge_rows-2.ensures.cells in
-    let changes = simp (c.as_slice-in-Some-4.ensures.value, c.as_slice-in-Some-5.ensures.value) at c.in_ok-merge_rows-3.ensures.cells in
-    let turns = simp c.as_slice-in-Some-6.ensures.value at c.in_ok-from.ensures.now in
+    let joins = simp (c.as_slice-in-Some-4.ensures.value, c.as_slice-in-Some-5.ensures.value) at c.in_ok-join_rows.ensures.cells in
     simp to_z-of_z
     (join_more c.args.op c.args.a.now c.args.b.now c.loop-next.i c.loop-next.j (to_z w32 c.loop-next.y-bits) c.loop-next.row_a.items c.loop-next.row_b.items c.loop-next.out.items c.loop-next.held.items
     (to_z w32 c.loop-next.from-bits) c.in-Some.next _ _ _ _ _ _ _ c.loop-next.invariant
     c.in-Some.ensures.in_a c.in-Some.ensures.in_b
-    (simp to_z-of_z at c.in_ok-i.ensures.split) (simp to_z-of_z at c.in_ok-j.ensures.split)
-    (simp to_z-of_z at c.in_ok-i.ensures.row) (simp to_z-of_z at c.in_ok-j.ensures.row)
+    (simp to_z-of_z at c.in_ok-step_a.ensures.split) (simp to_z-of_z at c.in_ok-step_b.ensures.split)
+    (simp to_z-of_z at c.in_ok-step_a.ensures.row) (simp to_z-of_z at c.in_ok-step_b.ensures.row)
     (simp to_z-of_z at c.in_ok-from.ensures.shown) (simp to_z-of_z at c.in_ok-from.ensures.cells)
-    (λ x. now_changed c.args.op c.change_by_first.result c.change_by_second.result c.loop-next.row_a.items c.loop-next.row_b.items _ _ c.loop-next.held.items _ _ _ _ _ _ x
-    c.change_by_first.ensures c.change_by_second.ensures (c.loop-next.invariant.now x) (c.in_ok-i.ensures.cells x) (by_a x) (c.in_ok-j.ensures.cells x) (by_b x) (changes x) (turns x)))
+    (λ x. c.in_ok-from.ensures.now x ∙ joins x))
 
 pub returns-clause-cells : goal.returns-clause-cells
 returns-clause-cells c x z =

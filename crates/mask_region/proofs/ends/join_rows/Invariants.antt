@@ -1,9 +1,9 @@
 use Rattle.std.proofs.Common.{◌+◌, ◌-◌, length}
-use Rattle.mask_region.proofs.Rows.{AreMerged}
-use Rattle.mask_region.proofs.ends.merge_rows.Given as goal
+use Rattle.mask_region.proofs.Rows.{AreJoined}
+use Rattle.mask_region.proofs.ends.join_rows.Given as goal
 
 abbrev pub invariant-loop-x : goal.invariant-loop-x
-invariant-loop-x l = AreMerged l.how l.a l.b l.i l.j l.out.items
+invariant-loop-x l = AreJoined l.op l.a l.b l.i l.j l.out.items
 
 abbrev pub decreases-loop-x : goal.decreases-loop-x
 decreases-loop-x l = (length l.a - l.i) + (length l.b - l.j)

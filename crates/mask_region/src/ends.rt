@@ -78,8 +78,8 @@ impl Joining {
     }
 }
 
-/// Writes the ends of the joined row, where `a` and `b` are the ends of two rows. Where one of them settles what is
-/// joined, the ends of the other are skipped.
+/// Writes the ends of the joined row, where `a` and `b` are the ends of two rows. Behind an end that changes nothing, the
+/// ends of a row are skipped as far as the other row settles what is joined.
 pub(crate) fn join_rows(
     op: Joining,
     a: &[i32],
@@ -97,7 +97,11 @@ pub(crate) fn join_rows(
     while let Some(x) = next_end(a, i, b, j) {
         i = past(a, i, x);
         j = past(b, j, x);
+        let count = out.len();
         turn(out, x, op.of(i % 2 == 1, j % 2 == 1))?;
+        if out.len() > count {
+            continue;
+        }
         j = op.skip_second(a, i, b, j);
         i = op.skip_first(a, i, b, j);
     }

@@ -1,7 +1,7 @@
 -- Rows of ends, passed and pushed one by one.
 use Rattle.std.proofs.Common.{◌≡◌, ℕ, zero, suc, ◌+◌, ◌-◌, ◌<◌, ◌≤◌, ◌^◌, Bool, true, false, cond, not, List, [], ◌∷◌, ◌++◌, length, take, refl, sym, ap, ◌∙◌, subst, ◌⊎◌, inl, inr, arith}
 use mathlib.Core.Bool.{beq}
-use Rattle.std.specs.Prelude.{ℤ, pos, ◌≤ℤ◌, ◌<ℤ◌, int_lt, Option, None, Some, IfSome}
+use Rattle.std.specs.Prelude.{ℤ, pos, ◌-ℤ◌, ◌≤ℤ◌, ◌<ℤ◌, int_lt, Option, None, Some, IfSome}
 use Rattle.std.specs.List.{All}
 use Rattle.std.proofs.lemmas.Bool.{cases_lt}
 use Rattle.std.proofs.lemmas.Int.{ints, by_lt_z}
@@ -12,7 +12,7 @@ use Rattle.plane_geom.specs.Ends.{is_odd, flips}
 use Rattle.plane_geom.proofs.Ends.{odd_more, flips-push, flips-push_behind, flips-up_to, up_further}
 use Rattle.mask_region.specs.Joins.{joined}
 use Rattle.mask_region.specs.declared.ends.Joining.{Joining}
-use Rattle.mask_region.specs.Rows.{end_at, IsRising, IsRow, IsNextEnd, Turns, IsPast, IsTurned, IsBelowFrom, IsSkipped}
+use Rattle.mask_region.specs.Rows.{end_at, IsRising, IsRow, IsNextEnd, Turns, IsPast, IsTurned, IsBelowFrom, IsSkipped, IsCommon, IsSameEnd}
 
 -- ---- one more end
 
@@ -255,14 +255,17 @@ behind (suc n) ends k z rising up le =
         let up : z <ℤ end_at ends (k + n + 1) = omega (arith, ints) in
         rw one up
 
-pub flips_at : (ends : List ℤ) (k : ℕ) (z : ℤ) → IsRising ends → k ≤ length ends → All (λ t. t ≤ℤ z) (take k ends) → (k < length ends → z <ℤ end_at ends k) → flips ends z ≡ is_odd k
-flips_at ends k z rising in_range up_to up =
+-- ends behind z change nothing at z
+flips_take : (ends : List ℤ) (k : ℕ) (z : ℤ) → IsRising ends → k ≤ length ends → (k < length ends → z <ℤ end_at ends k) → flips ends z ≡ flips (take k ends) z
+flips_take ends k z rising in_range up =
     let all : k + (length ends - k) ≡ length ends = omega (arith, in_range) in
     ap (λ l. flips l z) (sym (take_all (length ends) ends (omega arith)))
     ∙ ap (λ m. flips (take m ends) z) (sym all)
     ∙ behind (length ends - k) ends k z rising up (omega (arith, all))
-    ∙ flips-up_to (take k ends) z up_to
-    ∙ ap is_odd (length-take-le k ends in_range)
+
+pub flips_at : (ends : List ℤ) (k : ℕ) (z : ℤ) → IsRising ends → k ≤ length ends → All (λ t. t ≤ℤ z) (take k ends) → (k < length ends → z <ℤ end_at ends k) → flips ends z ≡ is_odd k
+flips_at ends k z rising in_range up_to up =
+    flips_take ends k z rising in_range up ∙ flips-up_to (take k ends) z up_to ∙ ap is_odd (length-take-le k ends in_range)
 
 -- Where the last of the first k ends lies at x or before, they all do.
 pub up_to_last : (ends : List ℤ) (k : ℕ) (x : ℤ) → IsRising ends → k ≤ length ends → (0 < k → end_at ends (k - 1) ≤ℤ x) → All (λ t. t ≤ℤ x) (take k ends)
@@ -295,17 +298,42 @@ pub record AreAlikeSoFar (old new other : List ℤ) (on : Bool) (i j : ℕ) : Ty
   pub new_before : (x : ℤ) → IsNextEnd old i new j x → All (λ t. t <ℤ x) (take j new)
   pub cells : (z : ℤ) → (i < length old → z <ℤ end_at old i) → (j < length new → z <ℤ end_at new j) → (flips old z ≡ flips new z) ⊎ (flips other z ≡ on)
 
-pub alike_start : (old new other : List ℤ) (on : Bool) → IsRow old → IsRow new → AreAlikeSoFar old new other on 0 0
-alike_start old new other on is_old is_new =
+pub common_more : (a b : List ℤ) (k : ℕ) → IsCommon a b k → IsSameEnd a b k → IsCommon a b (k + 1)
+common_more a b k h one =
+    record {
+      in_a = omega (arith, one.in_a);
+      in_b = omega (arith, one.in_b);
+      same = take_more a k (pos 0) one.in_a ∙ (λ i. h.same i ++ one.same i ∷ []) ∙ sym (take_more b k (pos 0) one.in_b);
+    }
+
+rising_before : (ends : List ℤ) (k : ℕ) → IsRising ends → k < length ends → All (λ t. t <ℤ end_at ends k) (take k ends)
+rising_before ends k rising lt =
+    All-weaker (λ t. t ≤ℤ (end_at ends k -ℤ pos 1)) (λ t. t <ℤ end_at ends k) (λ t le. omega (arith, ints)) (take k ends)
+    (up_to_last ends k (end_at ends k -ℤ pos 1) rising (omega (arith, lt))
+    (λ some.
+    let rise : end_at ends (k - 1) <ℤ end_at ends (k - 1 + 1) = rising.each (k - 1) (omega (arith, lt, some)) in
+    let same : k - 1 + 1 ≡ k = omega (arith, some) in
+    let P : ℕ → Type 0 = λ m. end_at ends (k - 1) <ℤ end_at ends m in
+    let up : end_at ends (k - 1) <ℤ end_at ends k = subst P same rise in
+    omega (arith, ints)))
+
+pub alike_start : (old new other : List ℤ) (on : Bool) (k : ℕ) → IsRow old → IsRow new → IsCommon old new k → AreAlikeSoFar old new other on k k
+alike_start old new other on k is_old is_new common =
     record {
       old_row = is_old;
       new_row = is_new;
-      old_in = omega arith;
-      new_in = omega arith;
-      old_before = λ x n. All-nil (λ t. t <ℤ x);
-      new_before = λ x n. All-nil (λ t. t <ℤ x);
+      old_in = common.in_a;
+      new_in = common.in_b;
+      old_before = λ x n. elim n.one [
+        | inl p ↦ rw p.1 (rising_before old k is_old.rising p.0)
+        | inr p ↦ rw (p.1, common.same) (rising_before new k is_new.rising p.0)
+      ];
+      new_before = λ x n. elim n.one [
+        | inl p ↦ rw (p.1, ← common.same) (rising_before old k is_old.rising p.0)
+        | inr p ↦ rw p.1 (rising_before new k is_new.rising p.0)
+      ];
       cells = λ z below_old below_new.
-          inl (flips_at old 0 z is_old.rising (omega arith) (All-nil (λ t. t ≤ℤ z)) below_old ∙ sym (flips_at new 0 z is_new.rising (omega arith) (All-nil (λ t. t ≤ℤ z)) below_new));
+          inl (flips_take old k z is_old.rising common.in_a below_old ∙ ap (λ l. flips l z) common.same ∙ sym (flips_take new k z is_new.rising common.in_b below_new));
     }
 
 pub alike_more : (old new other : List ℤ) (on : Bool) (i j : ℕ) (x : ℤ) (i2 j2 : ℕ) → AreAlikeSoFar old new other on i j → IsNextEnd old i new j x → IsPast old i x i2 → IsPast new j x j2

@@ -56,3 +56,15 @@ pub record IsSkipped (ends : List ℤ) (k : ℕ) (other : List ℤ) (l r : ℕ) 
   pub in_range : r ≤ length ends
   pub from : k ≤ r
   pub below : k < r → l < length other → end_at ends (r - 1) <ℤ end_at other l
+
+-- The two lists begin with the same k ends.
+pub record IsCommon (a b : List ℤ) (k : ℕ) : Type 0 where
+  pub in_a : k ≤ length a
+  pub in_b : k ≤ length b
+  pub same : take k a ≡ take k b
+
+-- The two lists have the same end with index k.
+pub record IsSameEnd (a b : List ℤ) (k : ℕ) : Type 0 where
+  pub in_a : k < length a
+  pub in_b : k < length b
+  pub same : end_at a k ≡ end_at b k

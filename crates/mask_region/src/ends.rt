@@ -3,7 +3,7 @@ ghost use Rattle.std.specs.List.{All};
 ghost use Rattle.plane_geom.specs.Bounds.{IsWithin};
 ghost use Rattle.plane_geom.specs.Ends.{is_odd, flips};
 ghost use Rattle.mask_region.specs.Joins.{joined};
-ghost use Rattle.mask_region.specs.Rows.{end_at, IsRising, IsRow, IsNextEnd, IsPast, IsTurned, IsBelowFrom, IsSkipped};
+ghost use Rattle.mask_region.specs.Rows.{end_at, IsRising, IsRow, IsNextEnd, IsPast, IsTurned, IsBelowFrom, IsSkipped, IsCommon, IsSameEnd};
 
 use std::alloc::AllocError;
 
@@ -116,8 +116,9 @@ pub(crate) fn are_alike_but(old: &[i32], new: &[i32], other: &[i32], settling: b
     requires other { IsRow other.now }
     ensures { result ≡ true → (x : ℤ) → (flips old.now x ≡ flips new.now x) ⊎ (flips other.now x ≡ settling) }
 {
-    let mut i = 0;
-    let mut j = 0;
+    let same = common_ends(old, new);
+    let mut i = same;
+    let mut j = same;
     while let Some(x) = next_end(old, i, new, j) {
         i = past(old, i, x);
         j = past(new, j, x);
@@ -129,6 +130,30 @@ pub(crate) fn are_alike_but(old: &[i32], new: &[i32], other: &[i32], settling: b
         }
     }
     true
+}
+
+/// With how many ends that are the same two rows begin.
+fn common_ends(a: &[i32], b: &[i32]) -> usize
+    ensures { IsCommon a.now b.now result }
+{
+    let mut k = 0;
+    while is_same_end(a, b, k) {
+        k += 1;
+    }
+    k
+}
+
+/// Whether two rows have an end with index `k`, and it is the same.
+fn is_same_end(a: &[i32], b: &[i32], k: usize) -> bool
+    ensures { result ≡ true → IsSameEnd a.now b.now k }
+{
+    if k >= a.len() {
+        return false;
+    }
+    if k >= b.len() {
+        return false;
+    }
+    a[k] == b[k]
 }
 
 /// Whether the row is on, or off, as `on` says, all the way from `left` up to `right`; `None` is the end of the line.

@@ -4,7 +4,7 @@ use Rattle.mask_region.proofs.Rows.{alike_start, alike_more, before_next}
 use Rattle.mask_region.proofs.ends.are_alike_but.Goals as goal
 
 pub loop-x-init : goal.loop-x-init
-loop-x-init c = alike_start c.args.old.now c.args.new.now c.args.other.now c.args.settling c.requires.old c.requires.new
+loop-x-init c = alike_start c.args.old.now c.args.new.now c.args.other.now c.args.settling _ c.requires.old c.requires.new c.common_ends-same.ensures
 
 pub loop-x-preserved-then-i-j : goal.loop-x-preserved-then-i-j
 loop-x-preserved-then-i-j c =

@@ -13,7 +13,7 @@ use Rattle.mask_region.proofs.Rows.{rising-push}
 use Rattle.mask_region.specs.declared.strips.Strip.{Strip}
 use Rattle.mask_region.specs.Rows.{IsRising}
 use Rattle.mask_region.specs.Strips.{is_in_strip, is_in, IsStrip, Follows, IsBanded, Banded}
-use Rattle.mask_region.specs.Sweeping.{IsFree, AreAhead, ArePassed, IsEdge, IsRowOf}
+use Rattle.mask_region.specs.Sweeping.{IsFree, AreAhead, ArePassed, IsEdge, IsRowOf, IsSteady}
 
 abbrev pub no_strip : Strip
 no_strip = record { y0 = pos 0; y1 = pos 0; x0 = pos 0; x1 = pos 0 }
@@ -268,3 +268,27 @@ pub row_step : (strips : List Strip) (k : ℕ) (all : List Strip) (y : ℤ) (end
 row_step strips k all y ends made lt h now e =
     let P : List Strip → Type 0 = λ l. IsRowBut all l y ends in
     rw e (row_more all (strip_at strips k) (drop (k + 1) strips) y ends (subst P (drop_more strips k no_strip lt) h) now)
+
+-- ---- rows that go on
+
+later_begins : (s t : Strip) (y : ℤ) → Follows s t → y <ℤ s.y1 → (s.y0 ≡ y → ⊥) → t.y0 ≡ y → ⊥
+later_begins s t y f more apart here =
+    by_lt_z s.y0 t.y0
+    (λ up. let far : s.y1 ≤ℤ t.y0 = f.apart up in absurd (omega (arith, ints)))
+    (λ same. apart (omega (arith, ints, f.later)))
+
+none_begins : (s : Strip) (left : List Strip) (y : ℤ) → IsBanded (s ∷ left) → AreAhead (s ∷ left) y → (s.y0 ≡ y → ⊥) → IsSteady (s ∷ left) y
+none_begins s left y banded ahead apart = record { each = (apart, all_as (Follows s) (λ t. t.y0 ≡ y → ⊥) left (λ t f. later_begins s t y f ahead.each.0 apart) banded.1) }
+
+pub steady_at : (strips : List Strip) (k : ℕ) (y : ℤ) → k < length strips → Banded strips → AreAhead (drop k strips) y → ((strip_at strips k).y0 ≡ y → ⊥) → IsSteady (drop k strips) y
+steady_at strips k y lt banded ahead apart =
+    let P : List Strip → Type 0 = λ l. AreAhead l y in
+    let Q : List Strip → Type 0 = λ l. IsSteady l y in
+    let R : List Strip → Type 0 = λ l. IsBanded l in
+    let e : drop k strips ≡ strip_at strips k ∷ drop (k + 1) strips = drop_more strips k no_strip lt in
+    subst Q (sym e) (none_begins (strip_at strips k) (drop (k + 1) strips) y (subst R e (banded-drop k strips banded.each)) (subst P e ahead) apart)
+
+pub steady_none : (strips : List Strip) (k : ℕ) (y : ℤ) → length strips ≤ k → IsSteady (drop k strips) y
+steady_none strips k y le =
+    let P : List Strip → Type 0 = λ l. IsSteady l y in
+    subst P (sym (drop_all k strips le)) (record { each = tt })

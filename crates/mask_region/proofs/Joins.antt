@@ -1,6 +1,7 @@
 -- Two banded lists, joined band by band.
-use Rattle.std.proofs.Common.{◌≡◌, ℕ, ◌≤◌, ◌^◌, Bool, true, false, ◌&&◌, ◌||◌, List, [], length, take, drop, refl, sym, ap, ◌∙◌, subst, arith}
-use Rattle.std.specs.Prelude.{ℤ, pos, neg_ℤ, ◌≤ℤ◌, ◌<ℤ◌}
+use Rattle.std.proofs.Common.{◌≡◌, ℕ, ◌+◌, ◌≤◌, ◌^◌, Bool, true, false, ◌&&◌, ◌||◌, List, [], length, take, drop, refl, sym, ap, ◌∙◌, subst, ◌⊎◌, inl, inr, arith}
+use Rattle.std.specs.Prelude.{ℤ, pos, neg_ℤ, ◌+ℤ◌, ◌-ℤ◌, ◌≤ℤ◌, ◌<ℤ◌}
+use Rattle.std.specs.List.{AllByRecursion}
 use Rattle.std.proofs.lemmas.Int.{ints, by_lt_z}
 use Rattle.std.proofs.lemmas.List.{take-append-drop, take_all}
 use Rattle.std.proofs.lemmas.List.Elements.{All-nil}
@@ -14,17 +15,21 @@ use Rattle.mask_region.specs.declared.ends.Joining.TheVariants.{Union, Meet, Min
 use Rattle.mask_region.specs.Joins.{joined}
 use Rattle.mask_region.specs.Rows.{IsRow}
 use Rattle.mask_region.specs.Strips.{is_in_strip, is_in, IsStrip, Banded}
-use Rattle.mask_region.specs.Sweeping.{ArePassed, IsEdge, IsRowOf, IsSplitAt, is_shown, IsShown}
-use Rattle.mask_region.proofs.Banding.{all_as, all_strips, none_above, passed_none, passed_further}
+use Rattle.mask_region.specs.Sweeping.{ArePassed, IsFree, IsEdge, IsRowOf, IsSteady, row_before, IsSplitAt, is_shown, IsShown}
+use Rattle.mask_region.proofs.Banding.{all_as, all_with, all_strips, none_above, passed_none, passed_further}
 
--- Below the row y the strips and the held band are the joined set.
-pub record AreJoinedTo (op : Joining) (a b : List Strip) (i j : ℕ) (y : ℤ) (out : List Strip) (held : List ℤ) (from : ℤ) : Type 0 where
+-- The rows at y are those of the two sets, and below y the strips and the held band are the joined set.
+pub record AreJoinedTo (op : Joining) (a b : List Strip) (i j : ℕ) (y : ℤ) (row_a row_b : List ℤ) (out : List Strip) (held : List ℤ) (from : ℤ) : Type 0 where
   pub a_banded : Banded a
   pub b_banded : Banded b
   pub a_split : IsSplitAt a y i
   pub b_split : IsSplitAt b y j
+  pub a_row : IsRowOf (drop i a) y row_a
+  pub b_row : IsRowOf (drop j b) y row_b
   pub shown : IsShown out held from y
+  pub low : neg_ℤ (pos (2 ^ 25)) ≤ℤ (y +ℤ pos 1)
   pub high : y ≤ℤ pos (2 ^ 25)
+  pub now : (x : ℤ) → flips held x ≡ joined op (flips row_a x) (flips row_b x)
   pub cells : (x z : ℤ) → z <ℤ y → is_shown out held from y x z ≡ joined op (is_in a x z) (is_in b x z)
 
 joined_nothing : (op : Joining) → joined op false false ≡ false
@@ -48,17 +53,30 @@ start_none strips y x z h low below = none_above strips x z (all_as IsStrip (λ 
 none_row : IsRow []
 none_row = record { rising = record { each = λ k h. absurd (omega arith); within = All-nil (IsWithin (2 ^ 25)) }; even = refl }
 
-pub join_start : (op : Joining) (a b : List Strip) (y : ℤ) (out : List Strip) (held : List ℤ) → Banded a → Banded b → y ≡ neg_ℤ (pos (2 ^ 25)) → out ≡ [] → held ≡ []
-    → AreJoinedTo op a b 0 0 y out held y
-join_start op a b y out held banded_a banded_b low no_out no_held =
-    rw (no_out, no_held)
+start_row : (strips : List Strip) (y : ℤ) → Banded strips → y <ℤ neg_ℤ (pos (2 ^ 25)) → IsRowOf strips y []
+start_row strips y h low =
+    record {
+      row = none_row;
+      cells = λ x z up free.
+          none_above strips x z (all_with IsStrip (IsFree y z) (λ s. z <ℤ s.y0) strips
+          (λ s st f. f.ahead (omega (arith, ints, st.below))) (all_strips strips h.each) free);
+    }
+
+pub join_start : (op : Joining) (a b : List Strip) (y : ℤ) (row_a row_b : List ℤ) (out : List Strip) (held : List ℤ) → Banded a → Banded b → y ≡ neg_ℤ (pos (2 ^ 25 + 1))
+    → row_a ≡ [] → row_b ≡ [] → out ≡ [] → held ≡ [] → AreJoinedTo op a b 0 0 y row_a row_b out held y
+join_start op a b y row_a row_b out held banded_a banded_b low no_a no_b no_out no_held =
+    rw (no_a, no_b, no_out, no_held)
     (record {
       a_banded = banded_a;
       b_banded = banded_b;
       a_split = start_split a y banded_a (omega (arith, ints));
       b_split = start_split b y banded_b (omega (arith, ints));
-      shown = record { banded = record { each = tt }; passed = record { each = tt }; row = none_row; low = omega (arith, ints); order = omega (arith, ints) };
+      a_row = start_row a y banded_a (omega (arith, ints));
+      b_row = start_row b y banded_b (omega (arith, ints));
+      shown = record { banded = record { each = tt }; passed = record { each = tt }; row = none_row; low = λ some. absurd (omega arith); order = omega (arith, ints) };
+      low = omega (arith, ints);
       high = omega (arith, ints);
+      now = λ x. sym (joined_nothing op);
       cells = λ x z below. sym (joined_nothing op)
           ∙ (λ k. joined op (sym (start_none a y x z banded_a (omega (arith, ints)) below) k) (sym (start_none b y x z banded_b (omega (arith, ints)) below) k));
     })
@@ -72,6 +90,28 @@ row_cells strips y i next row x z split edge is_row low up =
     ∙ list_any-append (λ s. is_in_strip s x z) (take i strips) (drop i strips)
     ∙ ap (λ b. b || is_in (drop i strips) x z) (passed_none (take i strips) y x z split.passed low)
     ∙ is_row.cells x z low (edge.free z low up)
+
+-- A strip that neither begins nor ends from the row y up to the row `next`, and does not begin there, is free on.
+still_free : (y next z : ℤ) (s : Strip) → y <ℤ next → IsFree y (next -ℤ pos 1) s → (s.y0 ≡ next → ⊥) → IsFree next z s → IsFree y z s
+still_free y next z s up before apart free =
+    record {
+      now = λ h. free.now (omega (arith, ints));
+      ahead = λ h.
+          let far : (next -ℤ pos 1) <ℤ s.y0 = before.ahead h in
+          free.ahead (by_lt_z next s.y0 (λ lt. lt) (λ le. absurd (apart (omega (arith, ints)))));
+    }
+
+pub row_steady : (strips : List Strip) (y next : ℤ) (row : List ℤ) → IsEdge strips y next → IsRowOf strips y row → IsSteady strips next → IsRowOf strips next row
+row_steady strips y next row edge is_row steady =
+    let later : y <ℤ next = edge.later in
+    let before : AllByRecursion (IsFree y (next -ℤ pos 1)) strips = edge.free (next -ℤ pos 1) (omega (arith, ints)) (omega (arith, ints)) in
+    record {
+      row = is_row.row;
+      cells = λ x z low free.
+          is_row.cells x z (omega (arith, ints))
+          (all_with (IsFree y (next -ℤ pos 1)) (λ s. (s.y0 ≡ next → ⊥) × IsFree next z s) (IsFree y z) strips (λ s b af. still_free y next z s later b af.0 af.1) before
+          (all_with (λ s. s.y0 ≡ next → ⊥) (IsFree next z) (λ s. (s.y0 ≡ next → ⊥) × IsFree next z s) strips (λ s p q. (p, q)) steady.each free));
+    }
 
 pub split_further : (strips : List Strip) (y next : ℤ) (i : ℕ) → IsSplitAt strips y i → y ≤ℤ next → ArePassed (take i strips) next
 split_further strips y next i h up = passed_further (take i strips) y next up h.passed
@@ -99,23 +139,51 @@ shown_now out held from y next x z h low up =
     let here : is_between from next z ≡ true = grind (arith, ints) in
     ap (λ b. b || (flips held x && is_between from next z)) none ∙ and_true (flips held x) (is_between from next z) here
 
-pub join_more : (op : Joining) (a b : List Strip) (i j : ℕ) (y : ℤ) (out : List Strip) (held : List ℤ) (from next : ℤ) (row_a row_b row : List ℤ) (out2 : List Strip) (held2 : List ℤ) (from2 : ℤ) (i2 j2 : ℕ)
-    → AreJoinedTo op a b i j y out held from → IsEdge (drop i a) y next → IsEdge (drop j b) y next → IsRowOf (drop i a) y row_a → IsRowOf (drop j b) y row_b
-    → ((x : ℤ) → flips row x ≡ joined op (flips row_a x) (flips row_b x)) → IsShown out2 held2 from2 y
-    → ((x z : ℤ) → is_shown out2 held2 from2 y x z ≡ is_shown out held from y x z) → ((x : ℤ) → flips held2 x ≡ flips row x)
-    → IsSplitAt a next i2 → IsSplitAt b next j2 → AreJoinedTo op a b i2 j2 next out2 held2 from2
-join_more op a b i j y out held from next row_a row_b row out2 held2 from2 i2 j2 h edge_a edge_b is_a is_b joins shown kept now split_a split_b =
+-- With the same band held back, the joined set is shown up to the next edge.
+pub joined_up_to : (op : Joining) (a b : List Strip) (i j : ℕ) (y : ℤ) (row_a row_b : List ℤ) (out : List Strip) (held : List ℤ) (from next x z : ℤ) → AreJoinedTo op a b i j y row_a row_b out held from
+    → IsEdge (drop i a) y next → IsEdge (drop j b) y next → z <ℤ next → is_shown out held from next x z ≡ joined op (is_in a x z) (is_in b x z)
+joined_up_to op a b i j y row_a row_b out held from next x z h edge_a edge_b up =
+    by_lt_z z y
+    (λ below. shown_below out held from y next x z below edge_a.later ∙ h.cells x z below)
+    (λ low. shown_now out held from y next x z h.shown low up ∙ h.now x
+    ∙ (λ k. joined op (sym (row_cells a y i next row_a x z h.a_split edge_a h.a_row low up) k) (sym (row_cells b y j next row_b x z h.b_split edge_b h.b_row low up) k)))
+
+pub shown_to : (out : List Strip) (held : List ℤ) (from y next : ℤ) → IsShown out held from y → y <ℤ next → IsShown out held from next
+shown_to out held from y next h up = record { banded = h.banded; passed = h.passed; row = h.row; low = h.low; order = omega (arith, ints, h.order) }
+
+-- ---- a joined row that stays
+
+pub stays_by_first : (op : Joining) (on p p2 q : Bool) → ((s t : Bool) → joined op s on ≡ joined op t on) → (p ≡ p2) ⊎ (q ≡ on) → joined op p q ≡ joined op p2 q
+stays_by_first op on p p2 q settles h = elim h [ inl same ↦ ap (λ r. joined op r q) same | inr settled ↦ rw settled (settles p p2) ]
+
+pub stays_by_second : (op : Joining) (on p q q2 : Bool) → ((s t : Bool) → joined op on s ≡ joined op on t) → (q ≡ q2) ⊎ (p ≡ on) → joined op p q ≡ joined op p q2
+stays_by_second op on p q q2 settles h = elim h [ inl same ↦ ap (λ r. joined op p r) same | inr settled ↦ rw settled (settles q q2) ]
+
+pub still_joined : (op : Joining) (is_new_a : Bool) (old_a row_a below_a : List ℤ) (is_new_b : Bool) (old_b row_b below_b : List ℤ) (held : List ℤ) (x : ℤ)
+    → row_before is_new_a old_a row_a ≡ below_a → row_before is_new_b old_b row_b ≡ below_b
+    → joined op (flips (row_before is_new_a old_a row_a) x) (flips (row_before is_new_b old_b row_b) x) ≡ joined op (flips row_a x) (flips row_b x)
+    → flips held x ≡ joined op (flips below_a x) (flips below_b x) → flips held x ≡ joined op (flips row_a x) (flips row_b x)
+still_joined op is_new_a old_a row_a below_a is_new_b old_b row_b below_b held x same_a same_b stays now =
+    now ∙ (λ k. joined op (flips (sym same_a k) x) (flips (sym same_b k) x)) ∙ stays
+
+pub join_more : (op : Joining) (a b : List Strip) (i j : ℕ) (y : ℤ) (row_a row_b : List ℤ) (out : List Strip) (held : List ℤ) (from next : ℤ) (row_a2 row_b2 : List ℤ) (out2 : List Strip) (held2 : List ℤ) (from2 : ℤ) (i2 j2 : ℕ)
+    → AreJoinedTo op a b i j y row_a row_b out held from → IsEdge (drop i a) y next → IsEdge (drop j b) y next → IsSplitAt a next i2 → IsSplitAt b next j2
+    → IsRowOf (drop i2 a) next row_a2 → IsRowOf (drop j2 b) next row_b2 → IsShown out2 held2 from2 next
+    → ((x z : ℤ) → is_shown out2 held2 from2 next x z ≡ is_shown out held from next x z) → ((x : ℤ) → flips held2 x ≡ joined op (flips row_a2 x) (flips row_b2 x))
+    → AreJoinedTo op a b i2 j2 next row_a2 row_b2 out2 held2 from2
+join_more op a b i j y row_a row_b out held from next row_a2 row_b2 out2 held2 from2 i2 j2 h edge_a edge_b split_a split_b is_a is_b shown kept now =
     record {
       a_banded = h.a_banded;
       b_banded = h.b_banded;
       a_split = split_a;
       b_split = split_b;
-      shown = record { banded = shown.banded; passed = shown.passed; row = shown.row; low = shown.low; order = omega (arith, ints, shown.order, edge_a.later) };
+      a_row = is_a;
+      b_row = is_b;
+      shown = shown;
+      low = omega (arith, ints, h.low, edge_a.later);
       high = edge_a.near;
-      cells = λ x z up. by_lt_z z y
-          (λ below. shown_below out2 held2 from2 y next x z below edge_a.later ∙ kept x z ∙ h.cells x z below)
-          (λ low. shown_now out2 held2 from2 y next x z shown low up ∙ now x ∙ joins x
-          ∙ (λ k. joined op (sym (row_cells a y i next row_a x z h.a_split edge_a is_a low up) k) (sym (row_cells b y j next row_b x z h.b_split edge_b is_b low up) k)));
+      now = now;
+      cells = λ x z up. kept x z ∙ joined_up_to op a b i j y row_a row_b out held from next x z h edge_a edge_b up;
     }
 
 -- ---- the end
@@ -131,9 +199,9 @@ shown_none out held from y x z h low =
     let here : is_between from y z ≡ false = grind (arith, ints) in
     ap (λ b. b || (flips held x && is_between from y z)) none ∙ or_nothing (flips held x) (is_between from y z) here
 
-pub join_end : (op : Joining) (a b : List Strip) (i j : ℕ) (y : ℤ) (out : List Strip) (held : List ℤ) (from x z : ℤ) → AreJoinedTo op a b i j y out held from → length a ≤ i → length b ≤ j
+pub join_end : (op : Joining) (a b : List Strip) (i j : ℕ) (y : ℤ) (row_a row_b : List ℤ) (out : List Strip) (held : List ℤ) (from x z : ℤ) → AreJoinedTo op a b i j y row_a row_b out held from → length a ≤ i → length b ≤ j
     → is_shown out held from y x z ≡ joined op (is_in a x z) (is_in b x z)
-join_end op a b i j y out held from x z h all_a all_b =
+join_end op a b i j y row_a row_b out held from x z h all_a all_b =
     by_lt_z z y (λ below. h.cells x z below)
     (λ low. shown_none out held from y x z h.shown low ∙ sym (joined_nothing op)
     ∙ (λ k. joined op (sym (all_passed_cells a y i x z h.a_split all_a low) k) (sym (all_passed_cells b y j x z h.b_split all_b low) k)))

@@ -1,18 +1,18 @@
 -- Rows of ends, passed and pushed one by one.
-use Rattle.std.proofs.Common.{◌≡◌, ℕ, ◌+◌, ◌<◌, ◌≤◌, ◌^◌, Bool, true, false, cond, not, List, [], ◌∷◌, ◌++◌, length, take, refl, sym, ap, ◌∙◌, subst, inl, inr, arith}
+use Rattle.std.proofs.Common.{◌≡◌, ℕ, zero, suc, ◌+◌, ◌-◌, ◌<◌, ◌≤◌, ◌^◌, Bool, true, false, cond, not, List, [], ◌∷◌, ◌++◌, length, take, refl, sym, ap, ◌∙◌, subst, ◌⊎◌, inl, inr, arith}
 use mathlib.Core.Bool.{beq}
-use Rattle.std.specs.Prelude.{ℤ, pos, ◌≤ℤ◌, ◌<ℤ◌, int_lt}
+use Rattle.std.specs.Prelude.{ℤ, pos, ◌-ℤ◌, ◌≤ℤ◌, ◌<ℤ◌, int_lt, Option, None, Some, IfSome}
 use Rattle.std.specs.List.{All}
 use Rattle.std.proofs.lemmas.Bool.{cases_lt}
 use Rattle.std.proofs.lemmas.Int.{ints, by_lt_z}
-use Rattle.std.proofs.lemmas.List.{take_more, length-take-le, get_or_append_left, get_or_push, length_push}
-use Rattle.std.proofs.lemmas.List.Elements.{All-more, All-weaker, All-push, All-get_or}
+use Rattle.std.proofs.lemmas.List.{take_more, take_all, length-take-le, get_or_append_left, get_or_push, length_push}
+use Rattle.std.proofs.lemmas.List.Elements.{All-nil, All-more, All-weaker, All-push, All-get_or}
 use Rattle.plane_geom.specs.Bounds.{IsWithin}
 use Rattle.plane_geom.specs.Ends.{is_odd, flips}
 use Rattle.plane_geom.proofs.Ends.{odd_more, flips-push, flips-push_behind, flips-up_to, up_further}
 use Rattle.mask_region.specs.Joins.{joined}
 use Rattle.mask_region.specs.declared.ends.Joining.{Joining}
-use Rattle.mask_region.specs.Rows.{end_at, IsRising, IsRow, IsNextEnd, Turns, IsPast, IsTurned}
+use Rattle.mask_region.specs.Rows.{end_at, IsRising, IsRow, IsNextEnd, Turns, IsPast, IsTurned, IsBelowFrom, IsSkipped, IsCommon, IsSameEnd}
 
 -- ---- one more end
 
@@ -154,3 +154,216 @@ joined_more op a b i j out x i2 j2 out2 h pa pb t =
           (λ lt. t.turns.kept z lt ∙ h.cells z ∙ (λ k. joined op (sym (pa.turns.kept z lt) k) (sym (pb.turns.kept z lt) k)))
           (λ le. t.turns.now z le ∙ (λ k. joined op (sym (pa.turns.now z le) k) (sym (pb.turns.now z le) k)));
     }
+
+-- ---- ends that change nothing
+
+pub skip_second_one : (op : Joining) (a b : List ℤ) (i j : ℕ) (out : List ℤ) → AreJoined op a b i j out → j < length b → (i < length a → end_at b j <ℤ end_at a i)
+    → ((p q : Bool) → joined op (is_odd i) p ≡ joined op (is_odd i) q) → AreJoined op a b i (j + 1) out
+skip_second_one op a b i j out h lt below settled =
+    let x : ℤ = end_at b j in
+    let next : IsNextEnd a i b j x = record { in_a = λ l. (let b : end_at b j <ℤ end_at a i = below l in omega (arith, ints)); in_b = λ l. omega (arith, ints); one = inr (lt, refl) } in
+    joined_more op a b i j out x i (j + 1) out h (past_none a i x h.a_in below (h.a_before x next)) (past_more b j x lt h.b_row.rising refl (h.b_before x next))
+    (turned_none out x (joined op (is_odd i) (is_odd (j + 1))) (h.whole ∙ settled (is_odd j) (is_odd (j + 1))) h.rising (h.out_before x next))
+
+pub skip_first_one : (op : Joining) (a b : List ℤ) (i j : ℕ) (out : List ℤ) → AreJoined op a b i j out → i < length a → (j < length b → end_at a i <ℤ end_at b j)
+    → ((p q : Bool) → joined op p (is_odd j) ≡ joined op q (is_odd j)) → AreJoined op a b (i + 1) j out
+skip_first_one op a b i j out h lt below settled =
+    let x : ℤ = end_at a i in
+    let next : IsNextEnd a i b j x = record { in_a = λ l. omega (arith, ints); in_b = λ l. (let b : end_at a i <ℤ end_at b j = below l in omega (arith, ints)); one = inl (lt, refl) } in
+    joined_more op a b i j out x (i + 1) j out h (past_more a i x lt h.a_row.rising refl (h.a_before x next)) (past_none b j x h.b_in below (h.b_before x next))
+    (turned_none out x (joined op (is_odd (i + 1)) (is_odd j)) (h.whole ∙ settled (is_odd i) (is_odd (i + 1))) h.rising (h.out_before x next))
+
+-- what lies below the later end lies below the earlier one's limit
+skipped_before : (ends : List ℤ) (k : ℕ) (other : List ℤ) (l n : ℕ) → IsRising ends → IsSkipped ends k other l (k + suc n) → IsSkipped ends k other l (k + n)
+skipped_before ends k other l n rising h =
+    record {
+      in_range = omega (arith, h.in_range);
+      from = omega arith;
+      below = λ some in_other.
+          let last : end_at ends (k + suc n - 1) <ℤ end_at other l = h.below (omega arith) in_other in
+          let rise : end_at ends (k + n - 1) <ℤ end_at ends (k + n - 1 + 1) = rising.each (k + n - 1) (omega (arith, h.in_range)) in
+          let same : k + n - 1 + 1 ≡ k + suc n - 1 = omega arith in
+          let up : end_at ends (k + n - 1) <ℤ end_at ends (k + suc n - 1) = rw (← same) rise in
+          omega (arith, ints);
+    }
+
+skip_second_by : (n : ℕ) (op : Joining) (a b : List ℤ) (i j : ℕ) (out : List ℤ) → AreJoined op a b i j out → IsSkipped b j a i (j + n)
+    → (j < j + n → (p q : Bool) → joined op (is_odd i) p ≡ joined op (is_odd i) q) → AreJoined op a b i (j + n) out
+skip_second_by zero op a b i j out h skipped settled =
+    let P : ℕ → Type 0 = λ m. AreJoined op a b i m out in
+    let same : j ≡ j + 0 = omega arith in
+    subst P same h
+skip_second_by (suc n) op a b i j out h skipped settled =
+    let before : AreJoined op a b i (j + n) out = skip_second_by n op a b i j out h (skipped_before b j a i n h.b_row.rising skipped) (λ some. settled (omega arith)) in
+    let same : j + suc n - 1 ≡ j + n = omega arith in
+    let one : j + n + 1 ≡ j + suc n = omega arith in
+    let P : ℕ → Type 0 = λ m. AreJoined op a b i m out in
+    subst P one
+    (skip_second_one op a b i (j + n) out before (omega (arith, skipped.in_range)) (λ l. rw (← same) (skipped.below (omega arith) l)) (settled (omega arith)))
+
+skip_first_by : (n : ℕ) (op : Joining) (a b : List ℤ) (i j : ℕ) (out : List ℤ) → AreJoined op a b i j out → IsSkipped a i b j (i + n)
+    → (i < i + n → (p q : Bool) → joined op p (is_odd j) ≡ joined op q (is_odd j)) → AreJoined op a b (i + n) j out
+skip_first_by zero op a b i j out h skipped settled =
+    let P : ℕ → Type 0 = λ m. AreJoined op a b m j out in
+    let same : i ≡ i + 0 = omega arith in
+    subst P same h
+skip_first_by (suc n) op a b i j out h skipped settled =
+    let before : AreJoined op a b (i + n) j out = skip_first_by n op a b i j out h (skipped_before a i b j n h.a_row.rising skipped) (λ some. settled (omega arith)) in
+    let same : i + suc n - 1 ≡ i + n = omega arith in
+    let one : i + n + 1 ≡ i + suc n = omega arith in
+    let P : ℕ → Type 0 = λ m. AreJoined op a b m j out in
+    subst P one
+    (skip_first_one op a b (i + n) j out before (omega (arith, skipped.in_range)) (λ l. rw (← same) (skipped.below (omega arith) l)) (settled (omega arith)))
+
+pub skip_second : (op : Joining) (a b : List ℤ) (i j : ℕ) (out : List ℤ) (r : ℕ) → AreJoined op a b i j out → IsSkipped b j a i r
+    → (j < r → (p q : Bool) → joined op (is_odd i) p ≡ joined op (is_odd i) q) → AreJoined op a b i r out
+skip_second op a b i j out r h skipped settled =
+    let same : j + (r - j) ≡ r = omega (arith, skipped.from) in
+    let P : ℕ → Type 0 = λ m. AreJoined op a b i m out in
+    let Q : ℕ → Type 0 = λ m. IsSkipped b j a i m in
+    subst P same (skip_second_by (r - j) op a b i j out h (subst Q (sym same) skipped) (λ some. settled (omega arith)))
+
+pub skip_first : (op : Joining) (a b : List ℤ) (i j : ℕ) (out : List ℤ) (r : ℕ) → AreJoined op a b i j out → IsSkipped a i b j r
+    → (i < r → (p q : Bool) → joined op p (is_odd j) ≡ joined op q (is_odd j)) → AreJoined op a b r j out
+skip_first op a b i j out r h skipped settled =
+    let same : i + (r - i) ≡ r = omega (arith, skipped.from) in
+    let P : ℕ → Type 0 = λ m. AreJoined op a b m j out in
+    let Q : ℕ → Type 0 = λ m. IsSkipped a i b j m in
+    subst P same (skip_first_by (r - i) op a b i j out h (subst Q (sym same) skipped) (λ some. settled (omega arith)))
+
+-- ---- rows that are alike
+
+-- Where k ends lie at z or before and the others behind, their number tells whether the row is on.
+behind : (n : ℕ) (ends : List ℤ) (k : ℕ) (z : ℤ) → IsRising ends → (k < length ends → z <ℤ end_at ends k) → k + n ≤ length ends → flips (take (k + n) ends) z ≡ flips (take k ends) z
+behind zero ends k z rising up le =
+    let same : k + 0 ≡ k = omega arith in
+    ap (λ m. flips (take m ends) z) same
+behind (suc n) ends k z rising up le =
+    let more : take (k + n + 1) ends ≡ take (k + n) ends ++ end_at ends (k + n) ∷ [] = take_more ends (k + n) (pos 0) (omega (arith, le)) in
+    let one : k + suc n ≡ k + n + 1 = omega arith in
+    let first : z <ℤ end_at ends k = up (omega (arith, le)) in
+    ap (λ m. flips (take m ends) z) one ∙ ap (λ l. flips l z) more
+    ∙ flips-push_behind (take (k + n) ends) (end_at ends (k + n)) z (far_up n ends k z rising first (omega (arith, le)))
+    ∙ behind n ends k z rising up (omega (arith, le))
+  where
+    far_up : (n : ℕ) (ends : List ℤ) (k : ℕ) (z : ℤ) → IsRising ends → z <ℤ end_at ends k → k + n < length ends → z <ℤ end_at ends (k + n)
+    far_up zero ends k z rising first lt = let same : k + 0 ≡ k = omega arith in rw same first
+    far_up (suc n) ends k z rising first lt =
+        let one : k + suc n ≡ k + n + 1 = omega arith in
+        let before : z <ℤ end_at ends (k + n) = far_up n ends k z rising first (omega (arith, lt)) in
+        let rise : end_at ends (k + n) <ℤ end_at ends (k + n + 1) = rising.each (k + n) (omega (arith, lt)) in
+        let up : z <ℤ end_at ends (k + n + 1) = omega (arith, ints) in
+        rw one up
+
+-- ends behind z change nothing at z
+flips_take : (ends : List ℤ) (k : ℕ) (z : ℤ) → IsRising ends → k ≤ length ends → (k < length ends → z <ℤ end_at ends k) → flips ends z ≡ flips (take k ends) z
+flips_take ends k z rising in_range up =
+    let all : k + (length ends - k) ≡ length ends = omega (arith, in_range) in
+    ap (λ l. flips l z) (sym (take_all (length ends) ends (omega arith)))
+    ∙ ap (λ m. flips (take m ends) z) (sym all)
+    ∙ behind (length ends - k) ends k z rising up (omega (arith, all))
+
+pub flips_at : (ends : List ℤ) (k : ℕ) (z : ℤ) → IsRising ends → k ≤ length ends → All (λ t. t ≤ℤ z) (take k ends) → (k < length ends → z <ℤ end_at ends k) → flips ends z ≡ is_odd k
+flips_at ends k z rising in_range up_to up =
+    flips_take ends k z rising in_range up ∙ flips-up_to (take k ends) z up_to ∙ ap is_odd (length-take-le k ends in_range)
+
+-- Where the last of the first k ends lies at x or before, they all do.
+pub up_to_last : (ends : List ℤ) (k : ℕ) (x : ℤ) → IsRising ends → k ≤ length ends → (0 < k → end_at ends (k - 1) ≤ℤ x) → All (λ t. t ≤ℤ x) (take k ends)
+up_to_last ends zero x rising in_range last = All-nil (λ t. t ≤ℤ x)
+up_to_last ends (suc k) x rising in_range last =
+    let here : end_at ends (suc k - 1) ≤ℤ x = last (omega arith) in
+    let same : suc k - 1 ≡ k = omega arith in
+    let at : end_at ends k ≤ℤ x = rw (← same) here in
+    let one : k + 1 ≡ suc k = omega arith in
+    let P : ℕ → Type 0 = λ m. All (λ t. t ≤ℤ x) (take m ends) in
+    subst P one
+    (All-more (λ t. t ≤ℤ x) ends k (pos 0) (omega (arith, in_range))
+    (up_to_last ends k x rising (omega (arith, in_range)) (λ some. before_at k rising in_range at some)) at)
+  where
+    before_at : (k : ℕ) → IsRising ends → suc k ≤ length ends → end_at ends k ≤ℤ x → 0 < k → end_at ends (k - 1) ≤ℤ x
+    before_at k rising in_range at some =
+        let rise : end_at ends (k - 1) <ℤ end_at ends (k - 1 + 1) = rising.each (k - 1) (omega (arith, in_range, some)) in
+        let same : k - 1 + 1 ≡ k = omega (arith, some) in
+        let P : ℕ → Type 0 = λ m. end_at ends (k - 1) <ℤ end_at ends m in
+        let up : end_at ends (k - 1) <ℤ end_at ends k = subst P same rise in
+        omega (arith, ints)
+
+-- Up to the next end of the two, the rows are alike or the other row is as it should be.
+pub record AreAlikeSoFar (old new other : List ℤ) (on : Bool) (i j : ℕ) : Type 0 where
+  pub old_row : IsRow old
+  pub new_row : IsRow new
+  pub old_in : i ≤ length old
+  pub new_in : j ≤ length new
+  pub old_before : (x : ℤ) → IsNextEnd old i new j x → All (λ t. t <ℤ x) (take i old)
+  pub new_before : (x : ℤ) → IsNextEnd old i new j x → All (λ t. t <ℤ x) (take j new)
+  pub cells : (z : ℤ) → (i < length old → z <ℤ end_at old i) → (j < length new → z <ℤ end_at new j) → (flips old z ≡ flips new z) ⊎ (flips other z ≡ on)
+
+pub common_more : (a b : List ℤ) (k : ℕ) → IsCommon a b k → IsSameEnd a b k → IsCommon a b (k + 1)
+common_more a b k h one =
+    record {
+      in_a = omega (arith, one.in_a);
+      in_b = omega (arith, one.in_b);
+      same = take_more a k (pos 0) one.in_a ∙ (λ i. h.same i ++ one.same i ∷ []) ∙ sym (take_more b k (pos 0) one.in_b);
+    }
+
+rising_before : (ends : List ℤ) (k : ℕ) → IsRising ends → k < length ends → All (λ t. t <ℤ end_at ends k) (take k ends)
+rising_before ends k rising lt =
+    All-weaker (λ t. t ≤ℤ (end_at ends k -ℤ pos 1)) (λ t. t <ℤ end_at ends k) (λ t le. omega (arith, ints)) (take k ends)
+    (up_to_last ends k (end_at ends k -ℤ pos 1) rising (omega (arith, lt))
+    (λ some.
+    let rise : end_at ends (k - 1) <ℤ end_at ends (k - 1 + 1) = rising.each (k - 1) (omega (arith, lt, some)) in
+    let same : k - 1 + 1 ≡ k = omega (arith, some) in
+    let P : ℕ → Type 0 = λ m. end_at ends (k - 1) <ℤ end_at ends m in
+    let up : end_at ends (k - 1) <ℤ end_at ends k = subst P same rise in
+    omega (arith, ints)))
+
+pub alike_start : (old new other : List ℤ) (on : Bool) (k : ℕ) → IsRow old → IsRow new → IsCommon old new k → AreAlikeSoFar old new other on k k
+alike_start old new other on k is_old is_new common =
+    record {
+      old_row = is_old;
+      new_row = is_new;
+      old_in = common.in_a;
+      new_in = common.in_b;
+      old_before = λ x n. elim n.one [
+        | inl p ↦ rw p.1 (rising_before old k is_old.rising p.0)
+        | inr p ↦ rw (p.1, common.same) (rising_before new k is_new.rising p.0)
+      ];
+      new_before = λ x n. elim n.one [
+        | inl p ↦ rw (p.1, ← common.same) (rising_before old k is_old.rising p.0)
+        | inr p ↦ rw p.1 (rising_before new k is_new.rising p.0)
+      ];
+      cells = λ z below_old below_new.
+          inl (flips_take old k z is_old.rising common.in_a below_old ∙ ap (λ l. flips l z) common.same ∙ sym (flips_take new k z is_new.rising common.in_b below_new));
+    }
+
+pub alike_more : (old new other : List ℤ) (on : Bool) (i j : ℕ) (x : ℤ) (i2 j2 : ℕ) → AreAlikeSoFar old new other on i j → IsNextEnd old i new j x → IsPast old i x i2 → IsPast new j x j2
+    → ((z : ℤ) → x ≤ℤ z → (i2 < length old → z <ℤ end_at old i2) → (j2 < length new → z <ℤ end_at new j2) → (is_odd i2 ≡ is_odd j2) ⊎ (flips other z ≡ on))
+    → AreAlikeSoFar old new other on i2 j2
+alike_more old new other on i j x i2 j2 h next past_old past_new here =
+    record {
+      old_row = h.old_row;
+      new_row = h.new_row;
+      old_in = past_old.in_range;
+      new_in = past_new.in_range;
+      old_before = λ y n. further (take i2 old) x y (next_later old i i2 new j j2 x y past_old past_new n) past_old.up_to;
+      new_before = λ y n. further (take j2 new) x y (next_later old i i2 new j j2 x y past_old past_new n) past_new.up_to;
+      cells = λ z below_old below_new. by_lt_z z x
+          (λ lt. h.cells z (λ l. (let le : x ≤ℤ end_at old i = next.in_a l in omega (arith, ints))) (λ l. (let le : x ≤ℤ end_at new j = next.in_b l in omega (arith, ints))))
+          (λ le.
+          let is_old = flips_at old i2 z h.old_row.rising past_old.in_range (up_further (take i2 old) x z le past_old.up_to) below_old in
+          let is_new = flips_at new j2 z h.new_row.rising past_new.in_range (up_further (take j2 new) x z le past_new.up_to) below_new in
+          elim (here z le below_old below_new) [ inl same ↦ inl (is_old ∙ same ∙ sym is_new) | inr settled ↦ inr settled ]);
+    }
+
+pub alike_end : (old new other : List ℤ) (on : Bool) (i j : ℕ) (x : ℤ) → AreAlikeSoFar old new other on i j → length old ≤ i → length new ≤ j → (flips old x ≡ flips new x) ⊎ (flips other x ≡ on)
+alike_end old new other on i j x h all_old all_new = h.cells x (λ l. absurd (omega (arith, all_old))) (λ l. absurd (omega (arith, all_new)))
+
+pub all_on : (ends : List ℤ) (k : ℕ) (left z : ℤ) (on : Bool) → IsRising ends → k ≤ length ends → is_odd k ≡ on → (0 < k → end_at ends (k - 1) ≤ℤ left) → left ≤ℤ z → (k < length ends → z <ℤ end_at ends k)
+    → flips ends z ≡ on
+all_on ends k left z on rising in_range odd last low up =
+    flips_at ends k z rising in_range (up_further (take k ends) left z low (up_to_last ends k left rising in_range last)) up ∙ odd
+
+pub before_next : (next : Option ℤ) (old : List ℤ) (i : ℕ) (new : List ℤ) (j : ℕ) (z : ℤ) → IfSome next (λ x. IsNextEnd old i new j x) → (i < length old → z <ℤ end_at old i) → (j < length new → z <ℤ end_at new j)
+    → IfSome next (λ x. z <ℤ x)
+before_next None old i new j z n below_old below_new = tt
+before_next (Some x) old i new j z n below_old below_new = elim n.one [ inl p ↦ rw p.1 (below_old p.0) | inr p ↦ rw p.1 (below_new p.0) ]

@@ -1,5 +1,5 @@
 -- Rows: the cells of a region with one y, as a list of ends.
-use Rattle.std.specs.Prelude.{◌≡◌, ℕ, ◌+◌, ◌<◌, ◌≤◌, ◌^◌, ◌⊎◌, ℤ, pos, ◌≤ℤ◌, ◌<ℤ◌, Bool, false, List, length, take, slice_index_or}
+use Rattle.std.specs.Prelude.{◌≡◌, ℕ, ◌+◌, ◌-◌, ◌<◌, ◌≤◌, ◌^◌, ◌⊎◌, ℤ, pos, ◌≤ℤ◌, ◌<ℤ◌, Bool, false, List, length, take, slice_index_or}
 use Rattle.std.specs.List.{All}
 use Rattle.plane_geom.specs.Bounds.{IsWithin}
 use Rattle.plane_geom.specs.Ends.{is_odd, flips}
@@ -44,3 +44,27 @@ pub record IsTurned (before after : List ℤ) (x : ℤ) (on : Bool) : Type 0 whe
   pub up_to : All (λ t. t ≤ℤ x) after
   pub whole : is_odd (length after) ≡ on
   pub turns : Turns before after x on
+
+-- From index k up to index r the ends lie below the limit.
+pub record IsBelowFrom (ends : List ℤ) (k : ℕ) (limit : ℤ) (r : ℕ) : Type 0 where
+  pub in_range : r ≤ length ends
+  pub from : k ≤ r
+  pub below : k < r → end_at ends (r - 1) <ℤ limit
+
+-- From index k up to index r the ends lie below the end of the other row with index l, where it has such an end.
+pub record IsSkipped (ends : List ℤ) (k : ℕ) (other : List ℤ) (l r : ℕ) : Type 0 where
+  pub in_range : r ≤ length ends
+  pub from : k ≤ r
+  pub below : k < r → l < length other → end_at ends (r - 1) <ℤ end_at other l
+
+-- The two lists begin with the same k ends.
+pub record IsCommon (a b : List ℤ) (k : ℕ) : Type 0 where
+  pub in_a : k ≤ length a
+  pub in_b : k ≤ length b
+  pub same : take k a ≡ take k b
+
+-- The two lists have the same end with index k.
+pub record IsSameEnd (a b : List ℤ) (k : ℕ) : Type 0 where
+  pub in_a : k < length a
+  pub in_b : k < length b
+  pub same : end_at a k ≡ end_at b k

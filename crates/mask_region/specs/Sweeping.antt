@@ -1,5 +1,5 @@
 -- The sweep over the strips of a region, row by row.
-use Rattle.std.specs.Prelude.{◌≡◌, ℕ, ◌≤◌, ◌^◌, ℤ, pos, ◌≤ℤ◌, ◌<ℤ◌, neg_ℤ, Bool, not, int_lt, ◌&&◌, ◌||◌, List, take, drop, length}
+use Rattle.std.specs.Prelude.{◌≡◌, ℕ, ◌<◌, ◌≤◌, ◌^◌, ℤ, pos, ◌≤ℤ◌, ◌<ℤ◌, neg_ℤ, Bool, true, false, not, int_lt, ◌&&◌, ◌||◌, List, take, drop, length}
 use Rattle.std.specs.List.{AllByRecursion}
 use Rattle.plane_geom.specs.Cells.{is_between}
 use Rattle.plane_geom.specs.Ends.{flips}
@@ -31,6 +31,20 @@ pub record IsRowOf (strips : List Strip) (y : ℤ) (ends : List ℤ) : Type 0 wh
   pub row : IsRow ends
   pub cells : (x z : ℤ) → y ≤ℤ z → AllByRecursion (IsFree y z) strips → is_in strips x z ≡ flips ends x
 
+-- No strip begins at the row y.
+pub record IsSteady (strips : List Strip) (y : ℤ) : Type 0 where
+  pub each : AllByRecursion (λ s. s.y0 ≡ y → ⊥) strips
+
+-- the ends of the row below: those of the old row, where the row is new
+abbrev pub row_before : Bool → List ℤ → List ℤ → List ℤ
+row_before true old row = old
+row_before false old row = row
+
+-- With the old row, where the row is new, the ends are those of the row below.
+pub record IsRowBefore (is_new : Bool) (old row below : List ℤ) : Type 0 where
+  pub is_row : is_new ≡ true → IsRow old
+  pub is_before : row_before is_new old row ≡ below
+
 -- The strips up to index r end below the row y, and the others reach above it.
 pub record IsSplitAt (strips : List Strip) (y : ℤ) (r : ℕ) : Type 0 where
   pub in_range : r ≤ length strips
@@ -46,7 +60,7 @@ pub record IsShown (out : List Strip) (held : List ℤ) (from y : ℤ) : Type 0 
   pub banded : Banded out
   pub passed : ArePassed out from
   pub row : IsRow held
-  pub low : neg_ℤ (pos (2 ^ 25)) ≤ℤ from
+  pub low : 0 < length held → neg_ℤ (pos (2 ^ 25)) ≤ℤ from
   pub order : from ≤ℤ y
 
 -- In the order of the strips the cell comes behind this one: the strip ends below the cell's row, or it begins at

@@ -12,7 +12,7 @@ loop-k-preserved c =
     let right : FitsSigned w32 (end_at c.args.row.now (c.loop-k.k + 1)) = search rules in
     let items = simp to_z-of_z at c.in_ok-push.ensures.items in
     simp (to_z-of_z, items)
-    (put_more c.args.out.now.items c.args.row.now c.loop-k.k c.args.y0 c.args.y1 c.loop-k.out.items _ c.requires.row (omega (arith, ints)) c.requires.low c.requires.high c.loop-k-test.true
+    (put_more c.args.out.now.items c.args.row.now c.loop-k.k c.args.y0 c.args.y1 c.loop-k.out.items _ c.requires.row (omega (arith, ints)) (c.requires.low (omega (arith, c.loop-k-test.true))) c.requires.high c.loop-k-test.true
     refl refl refl refl (simp to_z-of_z at c.loop-k.invariant))
 
 pub returns-clause-passed : goal.returns-clause-passed

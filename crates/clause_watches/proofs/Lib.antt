@@ -1,4 +1,4 @@
 mod Listings
-mod Fronts
+pub mod Fronts
 mod Visits
-mod Kept
+pub mod Kept

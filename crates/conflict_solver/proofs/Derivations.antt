@@ -1,8 +1,8 @@
 -- One line more of a derivation.
-use Rattle.std.proofs.Common.{◌≡◌, ◌≢◌, ℕ, ◌+◌, ◌<◌, ◌≤◌, ◌^◌, ◌⊎◌, inl, inr, ℤ, true, false, nat_lt, List, [], ◌∷◌, ◌++◌, length, map, take, refl, sym, ap, ◌∙◌, subst, arith, append_assoc}
+use Rattle.std.proofs.Common.{◌≡◌, ◌≢◌, ℕ, zero, suc, ◌+◌, ◌-◌, ◌<◌, ◌≤◌, ◌^◌, ◌⊎◌, inl, inr, ℤ, true, false, nat_lt, List, [], ◌∷◌, ◌++◌, length, map, take, refl, sym, ap, ◌∙◌, subst, arith, append_assoc}
 use Rattle.std.specs.List.{count_by, All}
-use Rattle.std.proofs.lemmas.List.{map-append, length_push, length-append, length-map, take_append, get_or_push, take_all, append-nil}
-use Rattle.std.proofs.lemmas.List.Elements.{All-append}
+use Rattle.std.proofs.lemmas.List.{map-append, length_push, length-append, length-map, take-append-le, get_or_push, take_all, append-nil}
+use Rattle.std.proofs.lemmas.List.Elements.{All-push}
 use Rattle.std.proofs.lemmas.List.Sums.{count_by-le-length, count_by_more_no}
 use Rattle.clause_base.specs.Formulas.{Clauses}
 use Rattle.clause_base.specs.Teaching.{Teaches}
@@ -44,7 +44,13 @@ empty_more : (lines : List (List ℤ × List ℕ)) (hints : List ℕ) → filled
 empty_more lines hints = ap (λ ls. filled_lines ls) (sym (take_all (length lines + 1) (lines ++ ([], hints) ∷ []) (omega (arith, length_push lines ([], hints)))))
     ∙ count_by_more_no (λ (line : List ℤ × List ℕ). nat_lt 0 (length line.0)) (lines ++ ([], hints) ∷ []) (length lines) ([], hints) (omega (arith, length_push lines ([], hints)))
       (ap (λ (line : List ℤ × List ℕ). nat_lt 0 (length line.0)) (get_or_push lines ([], hints) ([], hints) (length lines) refl))
-    ∙ ap (λ ls. filled_lines ls) (take_append lines (([], hints) ∷ []))
+    ∙ ap (λ ls. filled_lines ls) (take-append-le (length lines) lines (([], hints) ∷ []) (omega arith) ∙ take_all (length lines) lines (omega arith))
+
+empty_plain : (vars : ℕ) → IsPlain vars []
+empty_plain vars = record {
+  once = record { once = λ p q plt. let no' : ⊥ = omega (arith, plt) in absurd no'; apart = record { apart = λ l (j, jlt, at). omega (arith, jlt) } };
+  literals = λ k d klt. let no' : ⊥ = omega (arith, klt) in absurd no';
+}
 
 -- a line that isn't empty
 pub line_more : (formula : Clauses) (budget left : ℕ) (said new : List Said) (s t : Search) (clause : List ℤ) (hints : List ℕ)
@@ -56,16 +62,14 @@ line_more formula budget left said new s t clause hints run some is follows teac
   derived = record {
     follow = follow_more formula.clauses run.lines clause hints run.derived.follow (subst (λ cs. Follows cs clause hints) run.clauses follows);
     teach = teach_more formula.clauses run.lines clause hints run.derived.teach (inr (subst (λ cs. Teaches cs clause) run.clauses teaches));
-    plain = All-append (λ (line : List ℤ × List ℕ). IsPlain formula.vars line.0) run.lines ((clause, hints) ∷ []) run.derived.plain (one (λ line. IsPlain formula.vars line.0) (subst (λ n. IsPlain n clause) run.vars plain));
+    plain = All-push (λ (line : List ℤ × List ℕ). IsPlain formula.vars line.0) run.lines (clause, hints) run.derived.plain (subst (λ n. IsPlain n clause) run.vars plain);
     few = omega (arith, few_filled (run.lines ++ (clause, hints) ∷ []), length_push run.lines (clause, hints), run.count, some);
   };
-  filled = All-append (λ (line : List ℤ × List ℕ). line.0 ≢ []) run.lines ((clause, hints) ∷ []) run.filled (one (λ line. line.0 ≢ []) filled);
+  filled = All-push (λ (line : List ℤ × List ℕ). line.0 ≢ []) run.lines (clause, hints) run.filled filled;
   count = omega (arith, length_push run.lines (clause, hints), run.count, some);
   clauses = clauses ∙ ap (λ cs. cs ++ clause ∷ []) run.clauses ∙ clauses_more formula run.lines clause hints;
   vars = vars ∙ run.vars;
-} where
-  one : (P : List ℤ × List ℕ → Type 0) → P (clause, hints) → All P ((clause, hints) ∷ [])
-  one P p = ?
+}
 
 -- the empty line
 pub ends_empty : (formula : Clauses) (budget left : ℕ) (said new : List Said) (s : Search) (clause : List ℤ) (hints : List ℕ)
@@ -76,7 +80,7 @@ ends_empty formula budget left said new s clause hints run is follows empty = re
   derived = record {
     follow = follow_more formula.clauses run.lines [] hints run.derived.follow (subst (λ cs. Follows cs [] hints) run.clauses (subst (λ c. Follows s.clauses c hints) empty follows));
     teach = teach_more formula.clauses run.lines [] hints run.derived.teach (inl refl);
-    plain = All-append (λ (line : List ℤ × List ℕ). IsPlain formula.vars line.0) run.lines (([], hints) ∷ []) run.derived.plain ?;
+    plain = All-push (λ (line : List ℤ × List ℕ). IsPlain formula.vars line.0) run.lines ([], hints) run.derived.plain (empty_plain formula.vars);
     few = omega (arith, empty_more run.lines hints, run.derived.few);
   };
   verdict_holds = record { front = run.lines; hints = hints; whole = refl };

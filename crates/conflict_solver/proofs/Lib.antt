@@ -3,3 +3,4 @@ pub mod Counting
 mod Derivations
 mod Joins
 mod Verdicts
+mod Steps

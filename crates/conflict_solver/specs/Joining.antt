@@ -1,14 +1,18 @@
 -- A clause that joins a search.
-use Rattle.std.specs.Prelude.{◌≡◌, ◌≢◌, ◌⊎◌, ℕ, ◌<◌, ◌≤◌, ℤ, true, false, Option, Some, None, List, [], ◌∷◌, ◌++◌, length, All, Contains}
-use Rattle.clause_base.specs.Literals.{is_in}
-use Rattle.search_trail.specs.Trails.{Search, IsReason, with_implied}
+use Rattle.std.specs.Prelude.{◌≡◌, ◌≢◌, ℕ, ℤ, Option, Some, None, IfSome, IfNone, List, [], ◌∷◌, ◌++◌, All, Contains}
+use Rattle.search_trail.specs.Trails.{Search}
+use Rattle.clause_watches.specs.Watching.{Watched, AreKept, IsConflict}
 use Rattle.conflict_solver.specs.declared.joining.Ends.{Ends}
 use Rattle.conflict_solver.specs.declared.joining.Ends.TheVariants.{Nothing, Sole, Pair}
+
+-- the clause lists no literal but this one
+abbrev pub ListsOnly : List ℤ → ℤ → Type 0
+ListsOnly clause lit = All (λ l. l ≡ lit) clause
 
 -- the clause is empty, lists one literal alone, or has these two
 abbrev pub AreEnds : List ℤ → Ends → Type 0
 AreEnds clause Nothing = clause ≡ []
-AreEnds clause (Sole a) = Contains clause a × All (λ l. l ≡ a) clause
+AreEnds clause (Sole a) = Contains clause a × ListsOnly clause a
 AreEnds clause (Pair a b) = Contains clause a × Contains clause b × (a ≢ b)
 
 -- one clause more, over the same variables
@@ -16,13 +20,13 @@ pub record HasJoined (old new : Search) (clause : List ℤ) : Type 0 where
   pub vars : new.vars ≡ old.vars
   pub clauses : new.clauses ≡ old.clauses ++ clause ∷ []
 
--- the last clause makes the literal true
-abbrev pub IsLastReason : Search → ℤ → Type 0
-IsLastReason s lit = IsReason s.clauses s.lits lit (length s.clauses)
-
--- the literal is true by then, or it joined the trail by the last clause
-abbrev pub IsHeldTrue : Search → ℤ → Search → Type 0
-IsHeldTrue old lit new = ((is_in old.lits lit ≡ true) × (new ≡ old)) ⊎ (new ≡ with_implied old lit (length old.clauses))
+-- A clause was given before a level begins: all clauses are watched, or the one that was found is false.
+pub record HasGiven (old new : Search) (w : Watched) (clause : List ℤ) (found : Option ℕ) : Type 0 where
+  pub joined : HasJoined old new clause
+  pub ground : new.starts ≡ []
+  pub head : w.head ≡ 0
+  pub kept : IfNone found (AreKept new w)
+  pub failed : IfSome found (IsConflict new)
 
 -- the first two literals, or none where there are fewer
 abbrev pub pair_at : List ℤ → Option (ℤ × ℤ)

@@ -36,10 +36,10 @@ pub record IsUnderWay (formula : Clauses) (budget left : ℕ) (said : List Said)
   pub clauses : s.clauses ≡ formula.clauses ++ line_clauses lines
   pub vars : s.vars ≡ formula.vars
 
--- how many literals there are, and two more
+-- how many literals there are of the variables, and two more
 abbrev pub room : Search → ℕ
 room s = s.vars * 2 + 2
 
 -- What is left of a search: it falls with each line, and with each literal that joins the trail between two lines.
 abbrev pub work_left : ℕ → Search → ℕ
-work_left left s = left * (room s + 1) + (room s - length s.lits)
+work_left left s = left * (room s + 2) + (room s + 1 - length s.lits)

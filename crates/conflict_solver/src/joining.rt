@@ -1,16 +1,17 @@
 //! Clauses that join a search: those that are given, and those that a conflict teaches.
 
-ghost use Rattle.std.specs.Prelude.{◌≡◌, ◌≢◌, ◌<◌, [], ◌∷◌, ◌++◌, length, true, false, neg_ℤ, OnOk, IfOk, IfSome, IfNone, All, Contains};
+ghost use Rattle.std.specs.Prelude.{◌≡◌, ◌≢◌, ◌<◌, ◌+◌, [], ◌∷◌, ◌++◌, length, true, false, neg_ℤ, OnOk, IfOk, IfSome, IfNone, Contains};
 ghost use Rattle.clause_base.specs.Formulas.{IsOver};
-ghost use Rattle.search_trail.specs.Learning.{IsLearnt, IsAsserting, IsJump};
-ghost use Rattle.clause_watches.specs.Watching.{AreKept, IsConflict};
-ghost use Rattle.search_trail.specs.Trails.{back_at};
-ghost use Rattle.conflict_solver.specs.Joining.{AreEnds, HasJoined, IsLastReason, IsHeldTrue, pair_at};
 ghost use Rattle.clause_base.specs.Literals.{is_in};
+ghost use Rattle.search_trail.specs.Trails.{IsReason, lit_at, with_clause, with_implied};
+ghost use Rattle.search_trail.specs.Learning.{IsLearnt, IsAsserting, IsJump};
+ghost use Rattle.clause_watches.specs.Watching.{AreKept, IsConflict, with_pair};
+ghost use Rattle.conflict_solver.specs.Joining.{ListsOnly, AreEnds, HasJoined, HasGiven, pair_at};
 
+use crate::levels::back_to;
 use clause_base::Lit;
 use clause_watches::Watches;
-use search_trail::{Learnt, Trail};
+use search_trail::Trail;
 use std::alloc::AllocError;
 
 /// The first literal of a clause, and the first that differs from it.
@@ -41,14 +42,22 @@ fn ends_of(clause: &[Lit]) -> Ends
 fn other_than(clause: &[Lit], first: Lit) -> Option<Lit>
     ensures there { IfSome result (λ second. Contains clause.now second) }
     ensures differ { IfSome result (λ second. first ≢ second) }
-    ensures none { IfNone result (All (λ l. l ≡ first) clause.now) }
+    ensures none { IfNone result (ListsOnly clause.now first) }
 {
     for lit in clause {
-        if *lit != first {
+        if is_other(*lit, first) {
             return Some(*lit);
         }
     }
     None
+}
+
+/// Whether two literals differ.
+fn is_other(lit: Lit, first: Lit) -> bool
+    ensures yes { result ≡ true → first ≢ lit }
+    ensures no { result ≡ false → lit ≡ first }
+{
+    lit != first
 }
 
 /// Adds a clause that is given, before a level begins and before a literal is gone through. The answer is the number of
@@ -63,22 +72,20 @@ pub(crate) fn give(
     requires ground { trail.old.starts ≡ [] }
     requires head { watches.old.head ≡ 0 }
     requires kept { IfNone conflict (AreKept trail.old watches.old) }
-    requires conflict { IfSome conflict (IsConflict trail.old) }
-    ensures joined { OnOk result (HasJoined trail.old trail.new clause.now) }
-    ensures ground { OnOk result (trail.new.starts ≡ []) }
-    ensures head { OnOk result (watches.new.head ≡ 0) }
-    ensures kept { IfOk result (λ found. IfNone found (AreKept trail.new watches.new)) }
-    ensures conflict { IfOk result (λ found. IfSome found (IsConflict trail.new)) }
+    requires failed { IfSome conflict (IsConflict trail.old) }
+    ensures { IfOk result (HasGiven trail.old trail.new watches.new clause.now) }
 {
-    if conflict.is_some() {
-        trail.add(clause)?;
-        return Ok(conflict);
+    match conflict {
+        None => give_first(trail, watches, clause),
+        Some(number) => {
+            trail.add(clause)?;
+            Ok(Some(number))
+        }
     }
-    join_given(trail, watches, clause)
 }
 
-/// Adds a clause that is given. The answer is its number where it is false.
-fn join_given(
+/// Adds a clause that is given, where none was found that is false.
+fn give_first(
     trail: &mut Trail,
     watches: &mut Watches,
     clause: &[Lit],
@@ -87,73 +94,121 @@ fn join_given(
     requires ground { trail.old.starts ≡ [] }
     requires head { watches.old.head ≡ 0 }
     requires kept { AreKept trail.old watches.old }
-    ensures joined { OnOk result (HasJoined trail.old trail.new clause.now) }
-    ensures ground { OnOk result (trail.new.starts ≡ []) }
-    ensures head { OnOk result (watches.new.head ≡ 0) }
-    ensures kept { IfOk result (λ found. IfNone found (AreKept trail.new watches.new)) }
-    ensures conflict { IfOk result (λ found. IfSome found (IsConflict trail.new)) }
+    ensures { IfOk result (HasGiven trail.old trail.new watches.new clause.now) }
+{
+    match ends_of(clause) {
+        Ends::Nothing => give_empty(trail, watches, clause),
+        Ends::Sole(lit) => give_sole(trail, watches, clause, lit),
+        Ends::Pair(first, second) => give_pair(trail, watches, clause, first, second),
+    }
+}
+
+/// Adds the empty clause, which is false.
+fn give_empty(
+    trail: &mut Trail,
+    watches: &Watches,
+    clause: &[Lit],
+) -> Result<Option<usize>, AllocError>
+    requires empty { clause.now ≡ [] }
+    requires over { IsOver trail.old.vars clause.now }
+    requires ground { trail.old.starts ≡ [] }
+    requires head { watches.now.head ≡ 0 }
+    ensures { IfOk result (HasGiven trail.old trail.new watches.now clause.now) }
 {
     trail.add(clause)?;
-    match ends_of(clause) {
-        Ends::Nothing => Ok(Some(trail.clauses())),
-        Ends::Sole(lit) if trail.is_true(lit.negated()) => Ok(Some(trail.clauses())),
-        Ends::Sole(lit) => {
-            hold_true(trail, lit)?;
-            watches.add(None)?;
-            Ok(None)
-        }
-        Ends::Pair(first, second) => {
-            watches.add(Some((first, second)))?;
-            Ok(None)
-        }
-    }
+    Ok(Some(trail.clauses()))
 }
 
-/// Makes the literal true by the last clause, where it isn't yet.
-fn hold_true(trail: &mut Trail, lit: Lit) -> Result<(), AllocError>
-    requires reason { IsLastReason trail.old lit }
-    requires standing { is_in trail.old.lits (neg_ℤ lit) ≡ false }
-    ensures { OnOk result (IsHeldTrue trail.old lit trail.new) }
+/// Adds a clause of one literal, and makes it true, unless it is false.
+fn give_sole(
+    trail: &mut Trail,
+    watches: &mut Watches,
+    clause: &[Lit],
+    lit: Lit,
+) -> Result<Option<usize>, AllocError>
+    requires there { Contains clause.now lit }
+    requires sole { ListsOnly clause.now lit }
+    requires over { IsOver trail.old.vars clause.now }
+    requires ground { trail.old.starts ≡ [] }
+    requires head { watches.old.head ≡ 0 }
+    requires kept { AreKept trail.old watches.old }
+    ensures { IfOk result (HasGiven trail.old trail.new watches.new clause.now) }
 {
-    if !trail.is_true(lit) {
-        trail.imply(lit, trail.clauses())?;
+    trail.add(clause)?;
+    if trail.is_true(lit.negated()) {
+        return Ok(Some(trail.clauses()));
     }
-    Ok(())
+    if trail.is_true(lit) {
+        watches.add(None)?;
+        return Ok(None);
+    }
+    trail.imply(lit, trail.clauses())?;
+    watches.add(None)?;
+    Ok(None)
 }
 
-/// Takes back the levels above that of the jump, and adds what was learnt: its first literal is true then.
+/// Adds a clause, watched at these two of its literals.
+fn give_pair(
+    trail: &mut Trail,
+    watches: &mut Watches,
+    clause: &[Lit],
+    first: Lit,
+    second: Lit,
+) -> Result<Option<usize>, AllocError>
+    requires first { Contains clause.now first }
+    requires second { Contains clause.now second }
+    requires differ { first ≢ second }
+    requires over { IsOver trail.old.vars clause.now }
+    requires ground { trail.old.starts ≡ [] }
+    requires head { watches.old.head ≡ 0 }
+    requires kept { AreKept trail.old watches.old }
+    ensures { IfOk result (HasGiven trail.old trail.new watches.new clause.now) }
+{
+    trail.add(clause)?;
+    watches.add(Some((first, second)))?;
+    Ok(None)
+}
+
+/// Takes back the levels above that of the jump, and adds the clause that was learnt: its first literal is true then.
 pub(crate) fn learn(
     trail: &mut Trail,
     watches: &mut Watches,
-    learnt: &Learnt,
+    lits: &[Lit],
+    level: usize,
 ) -> Result<(), AllocError>
     requires above { 0 < length trail.old.starts }
     requires kept { AreKept trail.old watches.old }
-    requires lits { IsLearnt trail.old learnt.now.lits.items }
-    requires asserting { IsAsserting trail.old learnt.now.lits.items }
-    requires jump { IsJump trail.old learnt.now.lits.items learnt.now.level }
-    ensures joined { OnOk result (HasJoined trail.old trail.new learnt.now.lits.items) }
+    requires learnt { IsLearnt trail.old lits.now }
+    requires asserting { IsAsserting trail.old lits.now }
+    requires jump { IsJump trail.old lits.now level }
+    ensures joined { OnOk result (HasJoined trail.old trail.new lits.now) }
     ensures kept { OnOk result (AreKept trail.new watches.new) }
 {
-    back_to(trail, watches, learnt.level);
-    trail.add(learnt.lits.as_slice())?;
-    trail.imply(learnt.lits[0], trail.clauses())?;
-    watches.add(first_two(learnt.lits.as_slice()))
+    back_to(trail, watches, level);
+    join_learnt(trail, watches, lits)
 }
 
-/// Takes back the levels above this one.
-pub(crate) fn back_to(trail: &mut Trail, watches: &mut Watches, level: usize)
-    requires kept { AreKept trail.old watches.old }
-    ensures trail { trail.new ≡ back_at trail.old level }
-    ensures kept { AreKept trail.new watches.new }
+/// Adds a clause that was learnt, by which its first literal is true.
+fn join_learnt(trail: &mut Trail, watches: &mut Watches, lits: &[Lit]) -> Result<(), AllocError>
+    requires some { 0 < length lits.now }
+    requires over { IsOver trail.old.vars lits.now }
+    requires vars { watches.old.vars ≡ trail.old.vars }
+    requires reason { IsReason (trail.old.clauses ++ lits.now ∷ []) trail.old.lits (lit_at lits.now 0) (length trail.old.clauses + 1) }
+    requires unset { is_in trail.old.lits (lit_at lits.now 0) ≡ false }
+    requires unset_negated { is_in trail.old.lits (neg_ℤ (lit_at lits.now 0)) ≡ false }
+    ensures trail { OnOk result (trail.new ≡ with_implied (with_clause trail.old lits.now) (lit_at lits.now 0) (length trail.old.clauses + 1)) }
+    ensures watches { OnOk result (watches.new ≡ with_pair watches.old (pair_at lits.now)) }
 {
-    trail.back(level);
-    watches.back(trail.lits().len());
+    trail.add(lits)?;
+    trail.imply(lits[0], trail.clauses())?;
+    watches.add(first_two(lits))
 }
 
 /// The first two literals.
 fn first_two(lits: &[Lit]) -> Option<(Lit, Lit)>
-    ensures { result ≡ pair_at lits.now }
+    ensures same { result ≡ pair_at lits.now }
+    ensures first { IfSome result (λ pair. Contains lits.now pair.0) }
+    ensures second { IfSome result (λ pair. Contains lits.now pair.1) }
 {
     match lits {
         [first, second, ..] => Some((*first, *second)),

@@ -9,6 +9,7 @@
 
 mod joining;
 mod laws;
+mod levels;
 mod order;
 mod restarts;
 mod saying;

@@ -54,11 +54,9 @@ impl Order {
     {
         let first = self.heap.first().copied()?;
         let last = self.heap.pop()?;
+        self.place(0, last);
+        self.sink(0);
         set_index(&mut self.indices, first, None);
-        if !self.heap.is_empty() {
-            self.place(0, last);
-            self.sink(0);
-        }
         Some(first)
     }
 
@@ -142,7 +140,9 @@ impl Order {
     }
 
     /// Moves the variable at this index down, past those with a greater score.
-    fn sink(&mut self, from: usize) {
+    fn sink(&mut self, from: usize)
+        ensures { length self.new.heap.items ≡ length self.old.heap.items }
+    {
         let mut index = from;
         while let Some(below) = self.greater_below(index) {
             if self.score_at(index) >= self.score_at(below) {

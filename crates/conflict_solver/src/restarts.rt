@@ -36,14 +36,15 @@ impl Restarts {
 /// The member with this number, from 1, of the list 1, 1, 2, 1, 1, 2, 4, ..
 fn length_of(number: u64) -> u64 {
     let mut rest = number;
-    for bits in (1..=62).rev() {
-        let whole = (1 << bits) - 1;
+    let mut whole = u64::MAX >> 1;
+    while whole > 0 {
         if rest == whole {
-            return 1 << (bits - 1);
+            return whole / 2 + 1;
         }
         if rest > whole {
             rest -= whole;
         }
+        whole /= 2;
     }
     1
 }

@@ -1,22 +1,26 @@
 //! The search for values that solve a formula, or for a proof that there are none.
 
-ghost use Rattle.std.specs.Prelude.{◌≡◌, ◌≢◌, ℕ, ◌<◌, ◌≤◌, ◌^◌, true, Some, None, [], length, take, Ok, Err, OnOk, OnErr, IfOk, IfSome, IfNone};
+ghost use Rattle.std.specs.Prelude.{◌≡◌, ◌≢◌, ℕ, ◌+◌, ◌<◌, ◌≤◌, ◌^◌, true, Some, None, [], length, take, Ok, Err, OnOk, OnErr, IfOk, IfSome, IfNone};
 ghost use Rattle.probe_io.specs.Causes.{Rose};
 ghost use Rattle.clause_base.specs.Formulas.{Clauses, IsFormula};
 ghost use Rattle.proof_sinks.specs.Calls.{KeepsTold};
+ghost use Rattle.search_trail.specs.Trails.{IsSearch};
+ghost use Rattle.search_trail.specs.Learning.{IsLearnt, IsAsserting, IsJump};
 ghost use Rattle.clause_watches.specs.Watching.{AreKept, IsConflict};
 ghost use Rattle.conflict_solver.specs.Deriving.{AreGiven, IsProofSoFar};
 ghost use Rattle.conflict_solver.specs.Answering.{IsAnswered};
-ghost use Rattle.conflict_solver.specs.Setting.{IsSettled, HasDecided};
-ghost use Rattle.conflict_solver.specs.Running.{KeepsSink, IsGiving, IsUnderWay, room, work_left};
+ghost use Rattle.conflict_solver.specs.Setting.{AreSet, AreTrue, IsSettled, HasDecided};
+ghost use Rattle.conflict_solver.specs.Running.{KeepsSink, IsGiving, IsUnderWay, work_left};
+ghost use Rattle.conflict_solver.specs.Joining.{HasJoined};
 
-use crate::joining::{back_to, give, learn};
+use crate::joining::{give, learn};
+use crate::levels::{back_to, is_ground};
 use crate::order::Order;
 use crate::restarts::Restarts;
 use crate::saying::{say_derived, say_given};
-use crate::values::{pick, values_of};
+use crate::values::{is_true_in, pick, values_of};
 use crate::verdict::{SolveFault, Verdict};
-use clause_base::Formula;
+use clause_base::{Formula, Lit};
 use clause_watches::Watches;
 use proof_sinks::ProofSink;
 use search_trail::{Trail, analyse};
@@ -82,6 +86,7 @@ fn give_all<P: ProofSink>(
     requires live { P.live sink.old ≡ true }
     requires giving { IsGiving formula.now 0 (P.said sink.old) solver.old.trail solver.old.watches None }
     ensures given { IfOk result (λ conflict. IsGiving formula.now (length formula.now.clauses) (P.said sink.new) solver.new.trail solver.new.watches conflict) }
+    ensures formula { OnOk result (IsFormula formula.now.vars formula.now.clauses) }
     ensures left { solver.new.left ≡ solver.old.left }
     ensures front { OnErr result (AreGiven formula.now (P.said sink.new)) }
     ensures live { OnOk result (P.live sink.new ≡ true) }
@@ -124,18 +129,20 @@ fn refute<P: ProofSink>(
     Ok(Verdict::Refuted)
 }
 
-/// Goes on until there is a verdict.
+/// Goes on until there is a verdict on the formula, all of whose clauses were given.
 fn search<P: ProofSink>(
     alloc: Global,
     solver: &mut Solver,
-    formula: &Formula,
+    _formula: &Formula,
     sink: &mut P,
 ) -> Result<Verdict, SolveFault>
+    requires formula { IsFormula _formula.now.vars _formula.now.clauses }
     requires live { P.live sink.old ≡ true }
     requires kept { AreKept solver.old.trail solver.old.watches }
-    requires under_way { IsUnderWay formula.now solver.old.left solver.old.left (P.said sink.old) solver.old.trail }
-    ensures answered { IfOk result (IsAnswered formula.now solver.old.left (P.said sink.new)) }
-    ensures so_far { OnErr result (IsProofSoFar formula.now solver.old.left (P.said sink.new)) }
+    requires few_lines { solver.old.left < 2 ^ 32 }
+    requires under_way { IsUnderWay _formula.now solver.old.left solver.old.left (P.said sink.old) solver.old.trail }
+    ensures answered { IfOk result (IsAnswered _formula.now solver.old.left (P.said sink.new)) }
+    ensures so_far { OnErr result (IsProofSoFar _formula.now solver.old.left (P.said sink.new)) }
     ensures live { OnOk result (P.live sink.new ≡ true) }
     ensures sink { KeepsSink (P.faults sink.old) (P.faults sink.new) (P.before sink.old) (P.before sink.new) result }
 {
@@ -154,6 +161,7 @@ fn turn<P: ProofSink>(
 ) -> Result<Option<Verdict>, SolveFault>
     requires live { P.live sink.old ≡ true }
     requires few { length (P.said sink.old) < 2 ^ 61 }
+    requires small { solver.old.trail.vars < 2 ^ 31 }
     requires kept { AreKept solver.old.trail solver.old.watches }
     ensures kept { IfOk result (λ found. IfNone found (AreKept solver.new.trail solver.new.watches)) }
     ensures under_way { (formula : Clauses) (budget : ℕ) → IsUnderWay formula budget solver.old.left (P.said sink.old) solver.old.trail
@@ -166,29 +174,33 @@ fn turn<P: ProofSink>(
     ensures live { OnOk result (P.live sink.new ≡ true) }
     ensures sink { KeepsSink (P.faults sink.old) (P.faults sink.new) (P.before sink.old) (P.before sink.new) result }
 {
-    match solver.watches.propagate(&mut solver.trail)? {
-        Some(conflict) if solver.trail.level() == 0 => {
-            refute(alloc, solver, conflict, sink).map(Some)
-        }
-        Some(_) if solver.left == 0 => Ok(Some(Verdict::Undecided)),
-        Some(conflict) => {
-            derive(alloc, solver, conflict, sink)?;
-            Ok(None)
-        }
-        None => Ok(decide(alloc, solver)?),
+    let conflict = solver.watches.propagate(&mut solver.trail)?;
+    let is_ground = is_ground(&solver.trail);
+    let Some(number) = conflict else {
+        return Ok(decide(alloc, solver)?);
+    };
+    if is_ground {
+        return Ok(Some(refute(alloc, solver, number, sink)?));
     }
+    if solver.left == 0 {
+        return Ok(Some(Verdict::Undecided));
+    }
+    derive(alloc, solver, number, sink)?;
+    Ok(None)
 }
 
 /// Decides a variable that isn't set. There is a verdict where each is set, or no line is left.
 fn decide(alloc: Global, solver: &mut Solver) -> Result<Option<Verdict>, AllocError>
+    requires small { solver.old.trail.vars < 2 ^ 31 }
     requires kept { AreKept solver.old.trail solver.old.watches }
     requires done { solver.old.watches.head ≡ length solver.old.trail.lits }
-    ensures kept { IfOk result (λ found. IfNone found (AreKept solver.new.trail solver.new.watches)) }
     ensures verdict { IfOk result (λ found. IfSome found (IsSettled solver.old.trail solver.old.left)) }
     ensures decided { IfOk result (λ found. IfNone found (HasDecided solver.old.trail solver.new.trail)) }
+    ensures watches { solver.new.watches ≡ solver.old.watches }
     ensures left { solver.new.left ≡ solver.old.left }
 {
     let Some(lit) = pick(&mut solver.order, &solver.trail) else {
+        all_true(&solver.trail, &solver.watches);
         return Ok(Some(Verdict::Values(values_of(alloc, &solver.trail)?)));
     };
     if solver.left == 0 {
@@ -196,6 +208,20 @@ fn decide(alloc: Global, solver: &mut Solver) -> Result<Option<Verdict>, AllocEr
     }
     solver.trail.decide(lit)?;
     Ok(None)
+}
+
+/// Each clause has a true literal, where each variable is set and nothing is left to propagate.
+fn all_true(trail: &Trail, watches: &Watches)
+    requires set { AreSet trail.now trail.now.vars }
+    requires kept { AreKept trail.now watches.now }
+    requires done { watches.now.head ≡ length trail.now.lits }
+    ensures { AreTrue trail.now (length trail.now.clauses) }
+{
+    for place in 0..trail.clauses() {
+        if !is_true_in(trail, trail.clause(place + 1)) {
+            unreachable!();
+        }
+    }
 }
 
 /// Says what a conflict teaches and goes on from there.
@@ -207,6 +233,7 @@ fn derive<P: ProofSink>(
 ) -> Result<(), SolveFault>
     requires above { 0 < length solver.old.trail.starts }
     requires left { 0 < solver.old.left }
+    requires search { IsSearch solver.old.trail }
     requires kept { AreKept solver.old.trail solver.old.watches }
     requires conflict { IsConflict solver.old.trail conflict }
     requires live { P.live sink.old ≡ true }
@@ -222,10 +249,33 @@ fn derive<P: ProofSink>(
     ensures sink { KeepsSink (P.faults sink.old) (P.faults sink.new) (P.before sink.old) (P.before sink.new) result }
 {
     let learnt = analyse(alloc, &solver.trail, conflict)?;
-    say_derived(sink, learnt.lits.as_slice(), learnt.hints.as_slice())?;
-    raise_scores(&mut solver.order, &solver.trail, learnt.hints.as_slice());
-    release_above(&mut solver.order, &solver.trail, learnt.level)?;
-    learn(&mut solver.trail, &mut solver.watches, &learnt)?;
+    let lits = learnt.lits.as_slice();
+    let hints = learnt.hints.as_slice();
+    say_derived(sink, lits, hints)?;
+    go_on(solver, lits, hints, learnt.level)?;
+    Ok(())
+}
+
+/// Takes up the clause that was learnt, and goes back to where it makes a literal true, or begins anew.
+fn go_on(
+    solver: &mut Solver,
+    lits: &[Lit],
+    hints: &[u64],
+    level: usize,
+) -> Result<(), AllocError>
+    requires above { 0 < length solver.old.trail.starts }
+    requires left { 0 < solver.old.left }
+    requires kept { AreKept solver.old.trail solver.old.watches }
+    requires learnt { IsLearnt solver.old.trail lits.now }
+    requires asserting { IsAsserting solver.old.trail lits.now }
+    requires jump { IsJump solver.old.trail lits.now level }
+    ensures joined { OnOk result (HasJoined solver.old.trail solver.new.trail lits.now) }
+    ensures kept { OnOk result (AreKept solver.new.trail solver.new.watches) }
+    ensures left { OnOk result (solver.new.left + 1 ≡ solver.old.left) }
+{
+    raise_scores(&mut solver.order, &solver.trail, hints);
+    release_above(&mut solver.order, &solver.trail, level)?;
+    learn(&mut solver.trail, &mut solver.watches, lits, level)?;
     solver.left -= 1;
     if solver.restarts.is_due() {
         release_above(&mut solver.order, &solver.trail, 0)?;

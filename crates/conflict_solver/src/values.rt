@@ -1,8 +1,9 @@
 //! Literals that are not set, and the values of a trail.
 
-ghost use Rattle.std.specs.Prelude.{◌≡◌, ◌<◌, ◌≤◌, ◌+◌, ◌⊎◌, ℕ, pos, length, true, false, neg_ℤ, nat_abs, slice_index_or, IfOk, IfSome, IfNone};
+ghost use Rattle.std.specs.Prelude.{◌≡◌, ◌<◌, ◌≤◌, ◌^◌, ◌⊎◌, pos, true, false, neg_ℤ, nat_abs, IfOk, IfSome, IfNone, All, Any};
 ghost use Rattle.clause_base.specs.Literals.{is_in};
-ghost use Rattle.conflict_solver.specs.Setting.{IsUnset, AreSet, AreValues};
+ghost use Rattle.clause_base.specs.Formulas.{IsOver};
+ghost use Rattle.conflict_solver.specs.Setting.{IsUnset, AreSet, IsSet, AreValues};
 
 use crate::order::Order;
 use clause_base::Lit;
@@ -12,13 +13,16 @@ use std::alloc::{AllocError, Global};
 /// A literal of which neither it nor its negation is true, the one that comes first in the order; `None` where each
 /// variable is set.
 pub(crate) fn pick(order: &mut Order, trail: &Trail) -> Option<Lit>
+    requires { trail.now.vars < 2 ^ 31 }
     ensures some { IfSome result (IsUnset trail.now) }
     ensures none { IfNone result (AreSet trail.now trail.now.vars) }
 {
     while let Some(variable) = order.take() {
-        let found = unset_literal(trail, variable, order.prefers_true(variable));
-        if found.is_some() {
-            return found;
+        if variable > 0 && variable <= trail.vars() {
+            let found = unset_literal(trail, variable, order.prefers_true(variable));
+            if found.is_some() {
+                return found;
+            }
         }
     }
     first_unset(trail)
@@ -26,23 +30,42 @@ pub(crate) fn pick(order: &mut Order, trail: &Trail) -> Option<Lit>
 
 /// The variable or its negation, where neither is true.
 fn unset_literal(trail: &Trail, variable: u32, is_true: bool) -> Option<Lit>
+    requires some { 0 < variable }
+    requires most { variable ≤ trail.now.vars }
+    requires small { trail.now.vars < 2 ^ 31 }
     ensures some { IfSome result (IsUnset trail.now) }
-    ensures none { IfNone result (0 < variable → variable ≤ trail.now.vars → (is_in trail.now.lits (pos variable) ≡ true) ⊎ (is_in trail.now.lits (neg_ℤ (pos variable)) ≡ true)) }
+    ensures none { IfNone result (IsSet trail.now variable) }
 {
-    let lit = Lit::new(i32::try_from(variable).ok()?)?;
-    if variable > trail.vars() || trail.is_true(lit) || trail.is_true(lit.negated()) {
+    let lit = literal_of(variable);
+    if trail.is_true(lit) {
+        return None;
+    }
+    if trail.is_true(lit.negated()) {
         return None;
     }
     Some(if is_true { lit } else { lit.negated() })
 }
 
+/// The literal of this variable.
+fn literal_of(variable: u32) -> Lit
+    requires some { 0 < variable }
+    requires small { variable < 2 ^ 31 }
+    ensures { result ≡ pos variable }
+{
+    let Some(lit) = Lit::new(variable as i32) else {
+        unreachable!();
+    };
+    lit
+}
+
 /// The least variable that isn't set.
 fn first_unset(trail: &Trail) -> Option<Lit>
+    requires { trail.now.vars < 2 ^ 31 }
     ensures some { IfSome result (IsUnset trail.now) }
     ensures none { IfNone result (AreSet trail.now trail.now.vars) }
 {
-    for variable in 1..=trail.vars() {
-        let found = unset_literal(trail, variable, false);
+    for place in 0..trail.vars() {
+        let found = unset_literal(trail, place + 1, false);
         if found.is_some() {
             return found;
         }
@@ -50,25 +73,40 @@ fn first_unset(trail: &Trail) -> Option<Lit>
     None
 }
 
-/// For each variable whether it is true.
-pub(crate) fn values_of(alloc: Global, trail: &Trail) -> Result<Vec<bool>, AllocError>
-    ensures { IfOk result (λ values. AreValues trail.now values.items) }
+/// Whether a literal of the clause is true. Each variable is set.
+pub(crate) fn is_true_in(trail: &Trail, clause: &[Lit]) -> bool
+    requires set { AreSet trail.now trail.now.vars }
+    requires over { IsOver trail.now.vars clause.now }
+    ensures yes { result ≡ true → Any (λ l. is_in trail.now.lits l ≡ true) clause.now }
+    ensures no { result ≡ false → All (λ l. is_in trail.now.lits (neg_ℤ l) ≡ true) clause.now }
 {
-    let mut values = Vec::new(alloc);
-    for variable in 1..=trail.vars() {
-        values.push(is_set_true(trail, variable))?;
+    for lit in clause {
+        if !is_false(trail, *lit) {
+            return true;
+        }
     }
-    Ok(values)
+    false
 }
 
-/// Whether the variable is true.
-fn is_set_true(trail: &Trail, variable: u32) -> bool
-    requires some { 0 < variable }
-    requires most { variable ≤ trail.now.vars }
-    ensures { result ≡ is_in trail.now.lits (pos variable) }
+/// Whether the literal is false. Its variable is set.
+fn is_false(trail: &Trail, lit: Lit) -> bool
+    requires set { AreSet trail.now trail.now.vars }
+    requires over { nat_abs lit ≤ trail.now.vars }
+    ensures yes { result ≡ true → is_in trail.now.lits (neg_ℤ lit) ≡ true }
+    ensures no { result ≡ false → is_in trail.now.lits lit ≡ true }
 {
-    i32::try_from(variable)
-        .ok()
-        .and_then(Lit::new)
-        .is_some_and(|lit| trail.is_true(lit))
+    let _variable = lit.variable();
+    trail.is_true(lit.negated())
+}
+
+/// For each variable whether it is true.
+pub(crate) fn values_of(alloc: Global, trail: &Trail) -> Result<Vec<bool>, AllocError>
+    requires { trail.now.vars < 2 ^ 31 }
+    ensures { IfOk result (λ values. AreValues trail.now trail.now.vars values.items) }
+{
+    let mut values = Vec::new(alloc);
+    for place in 0..trail.vars() {
+        values.push(trail.is_true(literal_of(place + 1)))?;
+    }
+    Ok(values)
 }

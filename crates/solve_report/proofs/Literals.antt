@@ -1,6 +1,7 @@
 -- The true literals of values, one by one.
 use Rattle.std.proofs.Common.{◌≡◌, ℕ, zero, suc, ◌+◌, ◌<◌, ◌≤◌, ℤ, pos, Bool, List, [], ◌∷◌, length, take, map, get_or, flat_map, Option, refl, sym, ◌∙◌, ap, subst, arith}
 use Rattle.std.specs.List.{enumerate_from}
+use Rattle.std.proofs.lemmas.List.{get_or_default}
 use Rattle.probe_io.specs.Written.{Appends, AppendsFront}
 use Rattle.proof_sinks.specs.Text.{literal_text}
 use Rattle.solve_report.specs.Report.{literal_of, true_literals}
@@ -20,9 +21,12 @@ count : (n : ℕ) (values : List Bool) → length (literals_from n values) ≡ l
 count n [] = refl
 count n (v ∷ values) = ap (λ k. suc k) (count (n + 1) values)
 
-module _ (values : List Bool) (i : ℕ) (value : Bool) (within : i < length values) (is : value ≡ get_or values i value) where
+module _ (values : List Bool) (i : ℕ) (d : Bool) (within : i < length values) where
+  abbrev value : Bool
+  value = get_or values i d
+
   here : literal_of (i + 1) value ≡ get_or (true_literals values) i (pos 0)
-  here = let same : i + 1 ≡ 1 + i = omega arith in ap (λ k. literal_of k value) same ∙ literal_at 1 i values value (pos 0) within is
+  here = let same : i + 1 ≡ 1 + i = omega arith in ap (λ k. literal_of k value) same ∙ literal_at 1 i values value (pos 0) within (get_or_default values i d value within)
 
   inside : i < length (true_literals values)
   inside = subst (λ n. i < n) (sym (count 1 values)) within

@@ -1,9 +1,10 @@
 -- Sorted clauses, and the one sorted form of a formula.
-use Rattle.std.proofs.Common.{◌≡◌, ℕ, zero, suc, ◌^◌, ◌<◌, ◌≤◌, ◌⊎◌, inl, inr, ℤ, ◌<ℤ◌, Bool, true, List, [], ◌∷◌, length, get_or, refl, sym, ◌∙◌, ap, subst, arith}
+use Rattle.std.proofs.Common.{◌≡◌, ℕ, zero, suc, ◌+◌, ◌^◌, ◌<◌, ◌≤◌, ◌⊎◌, inl, inr, ℤ, ◌<ℤ◌, Bool, true, List, [], ◌∷◌, ◌++◌, length, take, get_or, refl, sym, ◌∙◌, ap, subst, arith}
 use Rattle.std.specs.Prelude.{nat_abs}
 use Rattle.std.specs.List.{All, Any, AllZip, Contains}
 use Rattle.std.proofs.lemmas.Int.{ints}
-use Rattle.std.proofs.lemmas.List.Elements.{All-contains, AllZip-get_or, Contains-get_or, length_all_zip}
+use Rattle.std.proofs.lemmas.List.{take_all, take_more}
+use Rattle.std.proofs.lemmas.List.Elements.{All-contains, AllZip-get_or, AllZip-push, Contains-get_or, length_all_zip}
 use Rattle.clause_base.specs.Literals.{IsRising}
 use Rattle.clause_base.specs.Formulas.{Clauses, IsFormula, IsOver}
 use Rattle.clause_base.specs.Novelty.{HaveSame}
@@ -114,5 +115,16 @@ solves_file file formula values sorted solution =
           true_in (is_true_under values) (get_or file.clauses k d) (get_or formula.clauses k d) here.same (solution.solve k d (subst (λ n. k < n) size lt));
     }
 
-pub vars_kept : (file formula : Clauses) → IsSortedForm file formula → formula.vars ≡ file.vars
-vars_kept file formula sorted = sorted.vars
+-- ---- clauses sorted one after the other
+
+-- the loop sorted all clauses
+pub sorted_all : (clauses formula sorted : List (List ℤ)) (i : ℕ) → clauses ≡ formula → length clauses ≤ i → AllZip IsSortedClause (take i clauses) sorted → AllZip IsSortedClause formula sorted
+sorted_all clauses formula sorted i same end each = subst (λ cs. AllZip IsSortedClause cs sorted) (take_all i clauses end ∙ same) each
+
+-- the loop sorted one clause more
+pub sorted_more : (clauses sorted pushed : List (List ℤ)) (i : ℕ) (item slice made : List ℤ) → i < length clauses → item ≡ get_or clauses i item → slice ≡ item → AllZip IsSortedClause (take i clauses) sorted
+    → HaveSame slice made → IsRising made → pushed ≡ sorted ++ made ∷ [] → AllZip IsSortedClause (take (i + 1) clauses) pushed
+sorted_more clauses sorted pushed i item slice made within at is each same rising more =
+    subst (λ cs. AllZip IsSortedClause cs pushed) (ap (λ c. take i clauses ++ c ∷ []) at ∙ sym (take_more clauses i item within))
+    (subst (λ ps. AllZip IsSortedClause (take i clauses ++ item ∷ []) ps) (sym more)
+    (AllZip-push IsSortedClause (take i clauses) sorted item made each (record { same = subst (λ c. HaveSame c made) is same; rising = rising })))

@@ -1,7 +1,7 @@
 //! A sink that prints the lines of a proof to a sink of text that it borrows.
 
 ghost use Rattle.std.specs.Prelude.{◌≡◌, true, [], Some};
-ghost use Rattle.solve_report.specs.Printing.{mark};
+ghost use Rattle.solve_report.specs.Printing.{ArePrinted, mark};
 
 use crate::steps::{put_derived, put_given};
 use clause_base::Lit;
@@ -55,6 +55,16 @@ impl<'a, K: Sink> Printer<'a, K> {
             list: StepList::new(alloc),
             is_whole: true,
         }
+    }
+
+    /// The sink of text. What was written there is the text of the lines, or a front of it where none was taken any more.
+    pub(crate) fn into_out(self) -> &'a mut K
+        ensures same_reference { result.ghost_name ≡ self.entry.name }
+        ensures printed { ArePrinted self.entry.start (K.written result.now) self.entry.said self.entry.live }
+        ensures faults { K.faults result.now ≡ self.entry.faults }
+    {
+        let Printer { out, .. } = self;
+        out
     }
 }
 

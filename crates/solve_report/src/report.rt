@@ -54,6 +54,7 @@ fn put_proof<K: Sink>(
     ensures later { K.faults out.old ≤ K.faults out.new }
 {
     let mut printer = Printer::new(alloc, out);
-    let verdict = solve(alloc, formula, budget, &mut printer)?;
-    Ok(verdict)
+    let answer = solve(alloc, formula, budget, &mut printer);
+    let _out = printer.into_out();
+    Ok(answer?)
 }

@@ -1,0 +1,5 @@
+mod Texts
+mod Printed
+mod Sorted
+mod Literals
+mod Reported

@@ -1,0 +1,11 @@
+use Rattle.std.proofs.Common.{take, flat_map, ◌≤◌}
+use Rattle.probe_io.specs.Written.{Appends}
+use Rattle.proof_sinks.specs.Text.{hint_text}
+use Rattle.solve_report.proofs.steps.put_hints.Given as goal
+
+-- the texts of the hints so far are written
+abbrev pub invariant-loop-hint : goal.invariant-loop-hint
+invariant-loop-hint g l = record {
+  written : Appends (g.K.Sink.written l.fn.out) (g.K.Sink.written l.out) (flat_map hint_text (take l.hint-index l.hints));
+  later : g.K.Sink.faults l.fn.out ≤ g.K.Sink.faults l.out;
+}

@@ -1,7 +1,6 @@
 -- Why files are refused, from what their bytes are.
 use Rattle.std.proofs.Common.{◌≡◌, ◌⊎◌, inl, inr, ℕ, List, refl, sym, ◌∙◌, ap, subst}
 use Rattle.std.specs.Prelude.{◌≢◌}
-use Rattle.probe_io.specs.Files.{IsFileOver}
 use Rattle.cif_reader.specs.declared.refusal.CifRefusal.{CifRefusal}
 use Rattle.cif_reader.specs.declared.refusal.CifRefusal.TheVariants.{CifTooLong, Syntax, NumberTooLarge, Unsupported, NotManhattan, NoLayer, TwiceDefined, ZeroScale, OffGrid, BadLabel, TooManyPoints, NoMemory as OutOfMemory}
 use Rattle.cif_reader.specs.Faults.{Refuses}
@@ -17,28 +16,60 @@ use Rattle.defect_sweep.specs.declared.refusal.SweepRefusal.TheVariants.{TooMany
 use Rattle.net_trace.specs.Touching.{Nets}
 use Rattle.defect_sweep.specs.declared.sides.SideWeight.{SideWeight}
 use Rattle.defect_sweep.specs.Bridges.{HasManyBridges}
+use Rattle.clause_base.specs.declared.faults.FormulaFault.{FormulaFault}
+use Rattle.clause_base.specs.declared.faults.FormulaFault.TheVariants.{TooLong, Syntax as FormulaSyntax, TooLarge, NoMemory as NoFormulaMemory}
+use Rattle.clause_base.specs.FormulaFaults.{IsFormulaFault}
 use Rattle.carafe_core.specs.declared.status.Which.{Which}
-use Rattle.carafe_core.specs.declared.status.Which.TheVariants.{Map, Cif}
+use Rattle.carafe_core.specs.declared.status.Which.TheVariants.{Map, Cif, Formula}
 use Rattle.carafe_core.specs.declared.status.Refusal.{Refusal}
+use Rattle.carafe_core.specs.declared.status.Refusal.TheVariants.{Words, Map as OfMap, Cif as OfCif, Layout as OfLayout, Sweep as OfSweep, Formula as OfFormula}
 use Rattle.carafe_core.specs.declared.status.Status.{Status}
-use Rattle.carafe_core.specs.declared.status.Status.TheVariants.{Done, Refused, OpenFault, ReadFault, WriteFault, NoMemory}
-use Rattle.carafe_core.specs.Settings.{Settings, name_in}
+use Rattle.carafe_core.specs.declared.status.Status.TheVariants.{Done, DoneUndecided, Refused, OpenFault, ReadFault, WriteFault, NoMemory}
 use Rattle.layer_map.specs.Plan.{Plan}
-use Rattle.carafe_core.specs.Causes.{longest, too_long, IsReached, IsMap, IsLayout, HasFile, HasNets}
+use Rattle.carafe_core.specs.Settings.{BridgesSettings, SolveSettings, IsBridgesCall, IsSolveCall}
+use Rattle.carafe_core.specs.Causes.{longest, too_long, IsMap, HasPlan, IsLayout, HasFile, HasNets, IsFormulaText}
 use Rattle.carafe_core.proofs.NeverTooLong.{never_too_long, map_never_too_long}
-use Rattle.carafe_core.specs.Answers.{Shown, Text, Count, IsUnwritten, IsFailure, IsOutcome, IsFileFailure, map_refused_as, refused_as, layout_refused_as, sweep_refused_as}
+use Rattle.carafe_core.specs.Answers.{Shown, Text, Count, IsUnwritten, IsUnread, IsFailure, IsOutcome, IsBridgesFailure, IsSolveFailure, map_refused_as, refused_as, layout_refused_as, sweep_refused_as, formula_refused_as}
 
--- a file that is longer than those that are read
-by_kind : (which : Which) (shelf : Shown) (settings : Settings) → IsReached which shelf.files settings → IsFileOver shelf.files (name_in settings which) (longest which) → IsFileFailure shelf (Refused (too_long which)) settings
-unfolding longest
-by_kind Map shelf settings reached over = over
-by_kind Cif shelf settings reached over = record { plan = reached.plan; mapped = reached.has; long = over }
+-- ---- files that are not read
 
-pub long_failure : (which : Which) (shelf : Shown) (settings : Settings) (refusal : Refusal) → refusal ≡ too_long which → IsReached which shelf.files settings → IsFileOver shelf.files (name_in settings which) (longest which) → IsFileFailure shelf (Refused refusal) settings
-long_failure which shelf settings refusal is reached over = subst (λ r. IsFileFailure shelf (Refused r) settings) (sym is) (by_kind which shelf settings reached over)
+-- a map that is not read
+pub map_unread : (shelf : Shown) (settings : BridgesSettings) (status : Status) → IsUnread shelf Map settings.map status → IsBridgesFailure shelf status settings
+map_unread shelf settings Done unread = unread
+map_unread shelf settings DoneUndecided unread = unread
+map_unread shelf settings (Refused refusal) unread = subst (λ r. IsBridgesFailure shelf (Refused r) settings) (sym unread.0) unread.1
+map_unread shelf settings (OpenFault other) unread = subst (λ which. IsBridgesFailure shelf (OpenFault which) settings) (sym unread.0) unread.1
+map_unread shelf settings (ReadFault other) unread = subst (λ which. IsBridgesFailure shelf (ReadFault which) settings) (sym unread.0) unread.1
+map_unread shelf settings (WriteFault stream) unread = unread
+map_unread shelf settings NoMemory unread = tt
+
+-- a layout that is not read, where the map says a plan
+pub cif_unread : (shelf : Shown) (settings : BridgesSettings) (plan : Plan) (status : Status) → HasPlan shelf.files settings plan → IsUnread shelf Cif settings.cif status → IsBridgesFailure shelf status settings
+cif_unread shelf settings plan Done mapped unread = unread
+cif_unread shelf settings plan DoneUndecided mapped unread = unread
+cif_unread shelf settings plan (Refused refusal) mapped unread =
+    subst (λ r. IsBridgesFailure shelf (Refused r) settings) (sym unread.0) (record { plan = plan; mapped = mapped; long = unread.1 })
+cif_unread shelf settings plan (OpenFault other) mapped unread =
+    subst (λ which. IsBridgesFailure shelf (OpenFault which) settings) (sym unread.0) (record { plan = plan; has = mapped }, unread.1)
+cif_unread shelf settings plan (ReadFault other) mapped unread =
+    subst (λ which. IsBridgesFailure shelf (ReadFault which) settings) (sym unread.0) (record { plan = plan; has = mapped }, unread.1)
+cif_unread shelf settings plan (WriteFault stream) mapped unread = unread
+cif_unread shelf settings plan NoMemory mapped unread = tt
+
+-- a formula that is not read
+pub formula_unread : (shelf : Shown) (settings : SolveSettings) (status : Status) → IsUnread shelf Formula settings.formula status → IsSolveFailure shelf status settings
+formula_unread shelf settings Done unread = unread
+formula_unread shelf settings DoneUndecided unread = unread
+formula_unread shelf settings (Refused refusal) unread = subst (λ r. IsSolveFailure shelf (Refused r) settings) (sym unread.0) unread.1
+formula_unread shelf settings (OpenFault other) unread = subst (λ which. IsSolveFailure shelf (OpenFault which) settings) (sym unread.0) unread.1
+formula_unread shelf settings (ReadFault other) unread = subst (λ which. IsSolveFailure shelf (ReadFault which) settings) (sym unread.0) unread.1
+formula_unread shelf settings (WriteFault stream) unread = unread
+formula_unread shelf settings NoMemory unread = tt
+
+-- ---- files that are refused
 
 -- a map that is refused
-by_map_fault : (shelf : Shown) (settings : Settings) (bytes : List ℕ) (fault : MapRefusal) → IsMap shelf.files settings bytes → (fault ≢ NoMapMemory → RefusesMap bytes fault) → IsFileFailure shelf (map_refused_as fault) settings
+by_map_fault : (shelf : Shown) (settings : BridgesSettings) (bytes : List ℕ) (fault : MapRefusal) → IsMap shelf.files settings bytes → (fault ≢ NoMapMemory → RefusesMap bytes fault) → IsBridgesFailure shelf (map_refused_as fault) settings
 by_map_fault shelf settings bytes MapTooLong text refuses = absurd (map_never_too_long bytes (refuses (λ same. cc)))
 by_map_fault shelf settings bytes NoMapMemory text refuses = tt
 by_map_fault shelf settings bytes (BadLine line) text refuses = record { bytes = bytes; text = text; refuses = refuses (λ same. cc) }
@@ -48,11 +79,11 @@ by_map_fault shelf settings bytes (TwiceNamed line) text refuses = record { byte
 by_map_fault shelf settings bytes (NoSupplyLine side) text refuses = record { bytes = bytes; text = text; refuses = refuses (λ same. cc) }
 by_map_fault shelf settings bytes (TooMany line) text refuses = record { bytes = bytes; text = text; refuses = refuses (λ same. cc) }
 
-pub map_failure : (shelf : Shown) (settings : Settings) (bytes : List ℕ) (fault : MapRefusal) (status : Status) → status ≡ map_refused_as fault → IsMap shelf.files settings bytes → (fault ≢ NoMapMemory → RefusesMap bytes fault) → IsFileFailure shelf status settings
-map_failure shelf settings bytes fault status is text refuses = subst (λ s. IsFileFailure shelf s settings) (sym is) (by_map_fault shelf settings bytes fault text refuses)
+pub map_failure : (shelf : Shown) (settings : BridgesSettings) (bytes : List ℕ) (fault : MapRefusal) (status : Status) → status ≡ map_refused_as fault → IsMap shelf.files settings bytes → (fault ≢ NoMapMemory → RefusesMap bytes fault) → IsBridgesFailure shelf status settings
+map_failure shelf settings bytes fault status is text refuses = subst (λ s. IsBridgesFailure shelf s settings) (sym is) (by_map_fault shelf settings bytes fault text refuses)
 
 -- a layout that is refused
-by_fault : (shelf : Shown) (settings : Settings) (plan : Plan) (bytes : List ℕ) (fault : CifRefusal) → IsLayout shelf.files settings plan bytes → Refuses bytes fault → IsFileFailure shelf (refused_as fault) settings
+by_fault : (shelf : Shown) (settings : BridgesSettings) (plan : Plan) (bytes : List ℕ) (fault : CifRefusal) → IsLayout shelf.files settings plan bytes → Refuses bytes fault → IsBridgesFailure shelf (refused_as fault) settings
 by_fault shelf settings plan bytes CifTooLong layout refuses = absurd (never_too_long bytes refuses)
 by_fault shelf settings plan bytes OutOfMemory layout refuses = tt
 by_fault shelf settings plan bytes (Syntax place) layout refuses = record { plan = plan; bytes = bytes; layout = layout; refuses = refuses }
@@ -66,29 +97,42 @@ by_fault shelf settings plan bytes (OffGrid place) layout refuses = record { pla
 by_fault shelf settings plan bytes (BadLabel place) layout refuses = record { plan = plan; bytes = bytes; layout = layout; refuses = refuses }
 by_fault shelf settings plan bytes (TooManyPoints place) layout refuses = record { plan = plan; bytes = bytes; layout = layout; refuses = refuses }
 
-pub fault_failure : (shelf : Shown) (settings : Settings) (plan : Plan) (bytes : List ℕ) (fault : CifRefusal) (status : Status) → status ≡ refused_as fault → IsLayout shelf.files settings plan bytes → (fault ≡ OutOfMemory) ⊎ Refuses bytes fault → IsFileFailure shelf status settings
-fault_failure shelf settings plan bytes fault status is layout (inl memory) = subst (λ s. IsFileFailure shelf s settings) (sym (is ∙ ap refused_as memory)) tt
-fault_failure shelf settings plan bytes fault status is layout (inr refuses) = subst (λ s. IsFileFailure shelf s settings) (sym is) (by_fault shelf settings plan bytes fault layout refuses)
+pub fault_failure : (shelf : Shown) (settings : BridgesSettings) (plan : Plan) (bytes : List ℕ) (fault : CifRefusal) (status : Status) → status ≡ refused_as fault → IsLayout shelf.files settings plan bytes → (fault ≡ OutOfMemory) ⊎ Refuses bytes fault → IsBridgesFailure shelf status settings
+fault_failure shelf settings plan bytes fault status is layout (inl memory) = subst (λ s. IsBridgesFailure shelf s settings) (sym (is ∙ ap refused_as memory)) tt
+fault_failure shelf settings plan bytes fault status is layout (inr refuses) = subst (λ s. IsBridgesFailure shelf s settings) (sym is) (by_fault shelf settings plan bytes fault layout refuses)
 
 -- a layout whose nets are not named
-by_layout : (shelf : Shown) (settings : Settings) (plan : Plan) (file : Contents) (refusal : LayoutRefusal) → HasFile shelf.files settings plan file → RefusesLayout file plan refusal → IsFileFailure shelf (layout_refused_as refusal) settings
+by_layout : (shelf : Shown) (settings : BridgesSettings) (plan : Plan) (file : Contents) (refusal : LayoutRefusal) → HasFile shelf.files settings plan file → RefusesLayout file plan refusal → IsBridgesFailure shelf (layout_refused_as refusal) settings
 by_layout shelf settings plan file (Flat refusal) spelled refuses = record { plan = plan; file = file; spelled = spelled; refuses = refuses }
 by_layout shelf settings plan file TooManyNets spelled refuses = record { plan = plan; file = file; spelled = spelled; refuses = refuses }
 by_layout shelf settings plan file (LabelAmbiguous place) spelled refuses = record { plan = plan; file = file; spelled = spelled; refuses = refuses }
 by_layout shelf settings plan file NoLayoutMemory spelled refuses = tt
 
-pub layout_failure : (shelf : Shown) (settings : Settings) (plan : Plan) (file : Contents) (refusal : LayoutRefusal) (status : Status) → status ≡ layout_refused_as refusal → HasFile shelf.files settings plan file → RefusesLayout file plan refusal → IsFileFailure shelf status settings
-layout_failure shelf settings plan file refusal status is spelled refuses = subst (λ s. IsFileFailure shelf s settings) (sym is) (by_layout shelf settings plan file refusal spelled refuses)
+pub layout_failure : (shelf : Shown) (settings : BridgesSettings) (plan : Plan) (file : Contents) (refusal : LayoutRefusal) (status : Status) → status ≡ layout_refused_as refusal → HasFile shelf.files settings plan file → RefusesLayout file plan refusal → IsBridgesFailure shelf status settings
+layout_failure shelf settings plan file refusal status is spelled refuses = subst (λ s. IsBridgesFailure shelf s settings) (sym is) (by_layout shelf settings plan file refusal spelled refuses)
 
 -- a layout whose bridges are not listed
-by_sweep : (shelf : Shown) (settings : Settings) (plan : Plan) (named : NamedNets) (refusal : SweepRefusal) → HasNets shelf.files settings plan named → (refusal ≡ TooManyBridges → HasManyBridges named.nets settings.sides) → IsFileFailure shelf (sweep_refused_as refusal) settings
+by_sweep : (shelf : Shown) (settings : BridgesSettings) (plan : Plan) (named : NamedNets) (refusal : SweepRefusal) → HasNets shelf.files settings plan named → (refusal ≡ TooManyBridges → HasManyBridges named.nets settings.sides) → IsBridgesFailure shelf (sweep_refused_as refusal) settings
 by_sweep shelf settings plan named TooManyBridges nets many = record { plan = plan; named = named; nets = nets; many = many refl }
 by_sweep shelf settings plan named NoSweepMemory nets many = tt
 
-pub sweep_failure : (shelf : Shown) (settings : Settings) (plan : Plan) (named : NamedNets) (refusal : SweepRefusal) (status : Status) → status ≡ sweep_refused_as refusal → HasNets shelf.files settings plan named → (refusal ≡ TooManyBridges → HasManyBridges named.nets settings.sides) → IsFileFailure shelf status settings
-sweep_failure shelf settings plan named refusal status is nets many = subst (λ s. IsFileFailure shelf s settings) (sym is) (by_sweep shelf settings plan named refusal nets many)
+pub sweep_failure : (shelf : Shown) (settings : BridgesSettings) (plan : Plan) (named : NamedNets) (refusal : SweepRefusal) (status : Status) → status ≡ sweep_refused_as refusal → HasNets shelf.files settings plan named → (refusal ≡ TooManyBridges → HasManyBridges named.nets settings.sides) → IsBridgesFailure shelf status settings
+sweep_failure shelf settings plan named refusal status is nets many = subst (λ s. IsBridgesFailure shelf s settings) (sym is) (by_sweep shelf settings plan named refusal nets many)
+
+-- a formula that is refused
+by_formula_fault : (shelf : Shown) (settings : SolveSettings) (bytes : List ℕ) (fault : FormulaFault) → IsFormulaText shelf.files settings bytes → (fault ≢ NoFormulaMemory → IsFormulaFault bytes fault) → IsSolveFailure shelf (formula_refused_as fault) settings
+by_formula_fault shelf settings bytes TooLong text refuses = absurd (refuses (λ same. cc))
+by_formula_fault shelf settings bytes NoFormulaMemory text refuses = tt
+by_formula_fault shelf settings bytes (FormulaSyntax place) text refuses = record { bytes = bytes; text = text; refuses = refuses (λ same. cc) }
+by_formula_fault shelf settings bytes (TooLarge place) text refuses = record { bytes = bytes; text = text; refuses = refuses (λ same. cc) }
+
+pub formula_failure : (shelf : Shown) (settings : SolveSettings) (bytes : List ℕ) (fault : FormulaFault) (status : Status) → status ≡ formula_refused_as fault → IsFormulaText shelf.files settings bytes → (fault ≢ NoFormulaMemory → IsFormulaFault bytes fault) → IsSolveFailure shelf status settings
+formula_failure shelf settings bytes fault status is text refuses = subst (λ s. IsSolveFailure shelf s settings) (sym is) (by_formula_fault shelf settings bytes fault text refuses)
 
 -- the same of the same bytes
+pub formula_by_bytes : {slice bytes : List ℕ} {fault : FormulaFault} → slice ≡ bytes → (fault ≢ NoFormulaMemory → IsFormulaFault slice fault) → fault ≢ NoFormulaMemory → IsFormulaFault bytes fault
+formula_by_bytes {fault = fault} same refuses = subst (λ bs. fault ≢ NoFormulaMemory → IsFormulaFault bs fault) same refuses
+
 pub by_bytes : {slice bytes : List ℕ} {fault : CifRefusal} → slice ≡ bytes → (fault ≡ OutOfMemory) ⊎ Refuses slice fault → (fault ≡ OutOfMemory) ⊎ Refuses bytes fault
 by_bytes same (inl memory) = inl memory
 by_bytes {fault = fault} same (inr refuses) = inr (subst (λ bs. Refuses bs fault) same refuses)
@@ -96,14 +140,54 @@ by_bytes {fault = fault} same (inr refuses) = inr (subst (λ bs. Refuses bs faul
 pub map_by_bytes : {slice bytes : List ℕ} {fault : MapRefusal} → slice ≡ bytes → (fault ≢ NoMapMemory → RefusesMap slice fault) → fault ≢ NoMapMemory → RefusesMap bytes fault
 map_by_bytes {fault = fault} same refuses = subst (λ bs. fault ≢ NoMapMemory → RefusesMap bs fault) same refuses
 
+-- ---- statuses of calls without a report
+
+-- a failure of the files of a call is one of the call
+pub bridges_failed : (words : List (List ℕ)) (shelf : Shown) (settings : BridgesSettings) (status : Status) → IsBridgesCall words settings → IsBridgesFailure shelf status settings → IsFailure words shelf status
+bridges_failed words shelf settings Done asked failure = failure
+bridges_failed words shelf settings DoneUndecided asked failure = failure
+bridges_failed words shelf settings (Refused (Words refusal)) asked failure = absurd failure
+bridges_failed words shelf settings (Refused (OfMap refusal)) asked failure = record { settings = settings; asked = asked; holds = failure }
+bridges_failed words shelf settings (Refused (OfCif refusal)) asked failure = record { settings = settings; asked = asked; holds = failure }
+bridges_failed words shelf settings (Refused (OfLayout refusal)) asked failure = record { settings = settings; asked = asked; holds = failure }
+bridges_failed words shelf settings (Refused (OfSweep refusal)) asked failure = record { settings = settings; asked = asked; holds = failure }
+bridges_failed words shelf settings (Refused (OfFormula fault)) asked failure = absurd failure
+bridges_failed words shelf settings (OpenFault Map) asked failure = record { settings = settings; asked = asked; holds = failure }
+bridges_failed words shelf settings (OpenFault Cif) asked failure = record { settings = settings; asked = asked; holds = failure }
+bridges_failed words shelf settings (OpenFault Formula) asked failure = absurd failure
+bridges_failed words shelf settings (ReadFault Map) asked failure = record { settings = settings; asked = asked; holds = failure }
+bridges_failed words shelf settings (ReadFault Cif) asked failure = record { settings = settings; asked = asked; holds = failure }
+bridges_failed words shelf settings (ReadFault Formula) asked failure = absurd failure
+bridges_failed words shelf settings (WriteFault stream) asked failure = failure
+bridges_failed words shelf settings NoMemory asked failure = tt
+
+pub solve_failed : (words : List (List ℕ)) (shelf : Shown) (settings : SolveSettings) (status : Status) → IsSolveCall words settings → IsSolveFailure shelf status settings → IsFailure words shelf status
+solve_failed words shelf settings Done asked failure = failure
+solve_failed words shelf settings DoneUndecided asked failure = failure
+solve_failed words shelf settings (Refused (Words refusal)) asked failure = absurd failure
+solve_failed words shelf settings (Refused (OfMap refusal)) asked failure = absurd failure
+solve_failed words shelf settings (Refused (OfCif refusal)) asked failure = absurd failure
+solve_failed words shelf settings (Refused (OfLayout refusal)) asked failure = absurd failure
+solve_failed words shelf settings (Refused (OfSweep refusal)) asked failure = absurd failure
+solve_failed words shelf settings (Refused (OfFormula fault)) asked failure = record { settings = settings; asked = asked; holds = failure }
+solve_failed words shelf settings (OpenFault Map) asked failure = absurd failure
+solve_failed words shelf settings (OpenFault Cif) asked failure = absurd failure
+solve_failed words shelf settings (OpenFault Formula) asked failure = record { settings = settings; asked = asked; holds = failure }
+solve_failed words shelf settings (ReadFault Map) asked failure = absurd failure
+solve_failed words shelf settings (ReadFault Cif) asked failure = absurd failure
+solve_failed words shelf settings (ReadFault Formula) asked failure = record { settings = settings; asked = asked; holds = failure }
+solve_failed words shelf settings (WriteFault stream) asked failure = failure
+solve_failed words shelf settings NoMemory asked failure = tt
+
 -- where there is a failure, nothing is written
 pub failed : (words : List (List ℕ)) (shelf : Shown) (out : Text) (faults : Count) (status : Status) → IsFailure words shelf status → IsUnwritten out → IsOutcome words shelf out faults status
 failed words shelf out faults Done failure unwritten = absurd failure
+failed words shelf out faults DoneUndecided failure unwritten = absurd failure
 failed words shelf out faults (Refused refusal) failure unwritten = record { failure = failure; unwritten = unwritten }
 failed words shelf out faults (OpenFault which) failure unwritten = record { failure = failure; unwritten = unwritten }
 failed words shelf out faults (ReadFault which) failure unwritten = record { failure = failure; unwritten = unwritten }
 failed words shelf out faults (WriteFault stream) failure unwritten = absurd failure
-failed words shelf out faults NoMemory failure unwritten = record { failure = failure; unwritten = unwritten }
+failed words shelf out faults NoMemory failure unwritten = record { front = inl unwritten }
 
 -- the bridges of the same nets, for the same sides
 pub many_named : {a b : Nets} {s t : List SideWeight} → a ≡ b → s ≡ t → HasManyBridges a s → HasManyBridges b t

@@ -16,9 +16,6 @@ use Rattle.defect_sweep.specs.declared.refusal.SweepRefusal.TheVariants.{TooMany
 use Rattle.net_trace.specs.Touching.{Nets}
 use Rattle.defect_sweep.specs.declared.sides.SideWeight.{SideWeight}
 use Rattle.defect_sweep.specs.Bridges.{HasManyBridges}
-use Rattle.clause_base.specs.declared.faults.FormulaFault.{FormulaFault}
-use Rattle.clause_base.specs.declared.faults.FormulaFault.TheVariants.{TooLong, Syntax as FormulaSyntax, TooLarge, NoMemory as NoFormulaMemory}
-use Rattle.clause_base.specs.FormulaFaults.{IsFormulaFault}
 use Rattle.carafe_core.specs.declared.status.Which.{Which}
 use Rattle.carafe_core.specs.declared.status.Which.TheVariants.{Map, Cif, Formula}
 use Rattle.carafe_core.specs.declared.status.Refusal.{Refusal}
@@ -27,46 +24,9 @@ use Rattle.carafe_core.specs.declared.status.Status.{Status}
 use Rattle.carafe_core.specs.declared.status.Status.TheVariants.{Done, DoneUndecided, Refused, OpenFault, ReadFault, WriteFault, NoMemory}
 use Rattle.layer_map.specs.Plan.{Plan}
 use Rattle.carafe_core.specs.Settings.{BridgesSettings, SolveSettings, IsBridgesCall, IsSolveCall}
-use Rattle.carafe_core.specs.Causes.{longest, too_long, IsMap, HasPlan, IsLayout, HasFile, HasNets, IsFormulaText}
+use Rattle.carafe_core.specs.Causes.{IsMap, IsLayout, HasFile, HasNets}
 use Rattle.carafe_core.proofs.NeverTooLong.{never_too_long, map_never_too_long}
-use Rattle.carafe_core.specs.Answers.{Shown, Text, Count, IsUnwritten, IsUnread, IsFailure, IsOutcome, IsBridgesFailure, IsSolveFailure, map_refused_as, refused_as, layout_refused_as, sweep_refused_as, formula_refused_as}
-
--- ---- files that are not read
-
--- a map that is not read
-pub map_unread : (shelf : Shown) (settings : BridgesSettings) (status : Status) → IsUnread shelf Map settings.map status → IsBridgesFailure shelf status settings
-map_unread shelf settings Done unread = unread
-map_unread shelf settings DoneUndecided unread = unread
-map_unread shelf settings (Refused refusal) unread = subst (λ r. IsBridgesFailure shelf (Refused r) settings) (sym unread.0) unread.1
-map_unread shelf settings (OpenFault other) unread = subst (λ which. IsBridgesFailure shelf (OpenFault which) settings) (sym unread.0) unread.1
-map_unread shelf settings (ReadFault other) unread = subst (λ which. IsBridgesFailure shelf (ReadFault which) settings) (sym unread.0) unread.1
-map_unread shelf settings (WriteFault stream) unread = unread
-map_unread shelf settings NoMemory unread = tt
-
--- a layout that is not read, where the map says a plan
-pub cif_unread : (shelf : Shown) (settings : BridgesSettings) (plan : Plan) (status : Status) → HasPlan shelf.files settings plan → IsUnread shelf Cif settings.cif status → IsBridgesFailure shelf status settings
-cif_unread shelf settings plan Done mapped unread = unread
-cif_unread shelf settings plan DoneUndecided mapped unread = unread
-cif_unread shelf settings plan (Refused refusal) mapped unread =
-    subst (λ r. IsBridgesFailure shelf (Refused r) settings) (sym unread.0) (record { plan = plan; mapped = mapped; long = unread.1 })
-cif_unread shelf settings plan (OpenFault other) mapped unread =
-    subst (λ which. IsBridgesFailure shelf (OpenFault which) settings) (sym unread.0) (record { plan = plan; has = mapped }, unread.1)
-cif_unread shelf settings plan (ReadFault other) mapped unread =
-    subst (λ which. IsBridgesFailure shelf (ReadFault which) settings) (sym unread.0) (record { plan = plan; has = mapped }, unread.1)
-cif_unread shelf settings plan (WriteFault stream) mapped unread = unread
-cif_unread shelf settings plan NoMemory mapped unread = tt
-
--- a formula that is not read
-pub formula_unread : (shelf : Shown) (settings : SolveSettings) (status : Status) → IsUnread shelf Formula settings.formula status → IsSolveFailure shelf status settings
-formula_unread shelf settings Done unread = unread
-formula_unread shelf settings DoneUndecided unread = unread
-formula_unread shelf settings (Refused refusal) unread = subst (λ r. IsSolveFailure shelf (Refused r) settings) (sym unread.0) unread.1
-formula_unread shelf settings (OpenFault other) unread = subst (λ which. IsSolveFailure shelf (OpenFault which) settings) (sym unread.0) unread.1
-formula_unread shelf settings (ReadFault other) unread = subst (λ which. IsSolveFailure shelf (ReadFault which) settings) (sym unread.0) unread.1
-formula_unread shelf settings (WriteFault stream) unread = unread
-formula_unread shelf settings NoMemory unread = tt
-
--- ---- files that are refused
+use Rattle.carafe_core.specs.Answers.{Shown, Text, Count, IsUnwritten, IsFailure, IsOutcome, IsBridgesFailure, IsSolveFailure, map_refused_as, refused_as, layout_refused_as, sweep_refused_as}
 
 -- a map that is refused
 by_map_fault : (shelf : Shown) (settings : BridgesSettings) (bytes : List ℕ) (fault : MapRefusal) → IsMap shelf.files settings bytes → (fault ≢ NoMapMemory → RefusesMap bytes fault) → IsBridgesFailure shelf (map_refused_as fault) settings
@@ -119,20 +79,7 @@ by_sweep shelf settings plan named NoSweepMemory nets many = tt
 pub sweep_failure : (shelf : Shown) (settings : BridgesSettings) (plan : Plan) (named : NamedNets) (refusal : SweepRefusal) (status : Status) → status ≡ sweep_refused_as refusal → HasNets shelf.files settings plan named → (refusal ≡ TooManyBridges → HasManyBridges named.nets settings.sides) → IsBridgesFailure shelf status settings
 sweep_failure shelf settings plan named refusal status is nets many = subst (λ s. IsBridgesFailure shelf s settings) (sym is) (by_sweep shelf settings plan named refusal nets many)
 
--- a formula that is refused
-by_formula_fault : (shelf : Shown) (settings : SolveSettings) (bytes : List ℕ) (fault : FormulaFault) → IsFormulaText shelf.files settings bytes → (fault ≢ NoFormulaMemory → IsFormulaFault bytes fault) → IsSolveFailure shelf (formula_refused_as fault) settings
-by_formula_fault shelf settings bytes TooLong text refuses = absurd (refuses (λ same. cc))
-by_formula_fault shelf settings bytes NoFormulaMemory text refuses = tt
-by_formula_fault shelf settings bytes (FormulaSyntax place) text refuses = record { bytes = bytes; text = text; refuses = refuses (λ same. cc) }
-by_formula_fault shelf settings bytes (TooLarge place) text refuses = record { bytes = bytes; text = text; refuses = refuses (λ same. cc) }
-
-pub formula_failure : (shelf : Shown) (settings : SolveSettings) (bytes : List ℕ) (fault : FormulaFault) (status : Status) → status ≡ formula_refused_as fault → IsFormulaText shelf.files settings bytes → (fault ≢ NoFormulaMemory → IsFormulaFault bytes fault) → IsSolveFailure shelf status settings
-formula_failure shelf settings bytes fault status is text refuses = subst (λ s. IsSolveFailure shelf s settings) (sym is) (by_formula_fault shelf settings bytes fault text refuses)
-
 -- the same of the same bytes
-pub formula_by_bytes : {slice bytes : List ℕ} {fault : FormulaFault} → slice ≡ bytes → (fault ≢ NoFormulaMemory → IsFormulaFault slice fault) → fault ≢ NoFormulaMemory → IsFormulaFault bytes fault
-formula_by_bytes {fault = fault} same refuses = subst (λ bs. fault ≢ NoFormulaMemory → IsFormulaFault bs fault) same refuses
-
 pub by_bytes : {slice bytes : List ℕ} {fault : CifRefusal} → slice ≡ bytes → (fault ≡ OutOfMemory) ⊎ Refuses slice fault → (fault ≡ OutOfMemory) ⊎ Refuses bytes fault
 by_bytes same (inl memory) = inl memory
 by_bytes {fault = fault} same (inr refuses) = inr (subst (λ bs. Refuses bs fault) same refuses)

@@ -1,13 +1,8 @@
 use Rattle.std.proofs.Common.{ℕ, List, ◌∷◌, sym, ap, subst}
 use Rattle.std.specs.Prelude.{codes}
 use Rattle.carafe_core.specs.Sides.{SpellsSides}
-use Rattle.carafe_core.proofs.WordLemmas.{three_items, no_bridges_call}
+use Rattle.carafe_core.proofs.WordLemmas.{three_items}
 use Rattle.carafe_core.proofs.settings.read_bridges.Goals as goal
-
-pub returns-in-Ok-Some-clause-read : goal.returns-in-Ok-Some-clause-read
-returns-in-Ok-Some-clause-read c =
-    let items = three_items _ _ _ _ c.in-len3.len_at_least c.in-len3.len_below c.map-item.is c.cif-item.is c.word-item.is in
-    record { word = c.word-item.result; spelled = ap (λ (rest : List (List ℕ)). codes "bridges" ∷ rest) items; sides_spelled = subst (λ word. SpellsSides word c.in-Ok-Some.sides.items) c.as_str.ensures (rw c.in-Ok-Some.field-0-is at c.in-Ok-Some.ensures.found) }
 
 pub returns-in-Ok-None-clause-failure : goal.returns-in-Ok-None-clause-failure
 returns-in-Ok-None-clause-failure c shelf =

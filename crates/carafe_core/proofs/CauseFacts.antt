@@ -1,5 +1,5 @@
 -- Why files are refused, from what their bytes are.
-use Rattle.std.proofs.Common.{◌≡◌, ◌⊎◌, inl, inr, ℕ, List, refl, sym, ◌∙◌, ap, subst}
+use Rattle.std.proofs.Common.{◌≡◌, ◌⊎◌, inl, inr, ℕ, List, Result, Ok, Err, OnOk, OnErr, refl, sym, ◌∙◌, ap, subst}
 use Rattle.std.specs.Prelude.{◌≢◌}
 use Rattle.cif_reader.specs.declared.refusal.CifRefusal.{CifRefusal}
 use Rattle.cif_reader.specs.declared.refusal.CifRefusal.TheVariants.{CifTooLong, Syntax, NumberTooLarge, Unsupported, NotManhattan, NoLayer, TwiceDefined, ZeroScale, OffGrid, BadLabel, TooManyPoints, NoMemory as OutOfMemory}
@@ -19,6 +19,7 @@ use Rattle.defect_sweep.specs.Bridges.{HasManyBridges}
 use Rattle.carafe_core.specs.declared.status.Which.{Which}
 use Rattle.carafe_core.specs.declared.status.Which.TheVariants.{Map, Cif, Formula}
 use Rattle.carafe_core.specs.declared.status.Refusal.{Refusal}
+use Rattle.carafe_core.specs.declared.status.Stream.TheVariants.{Out, Diag}
 use Rattle.carafe_core.specs.declared.status.Refusal.TheVariants.{Words, Map as OfMap, Cif as OfCif, Layout as OfLayout, Sweep as OfSweep, Formula as OfFormula}
 use Rattle.carafe_core.specs.declared.status.Status.{Status}
 use Rattle.carafe_core.specs.declared.status.Status.TheVariants.{Done, DoneUndecided, Refused, OpenFault, ReadFault, WriteFault, NoMemory}
@@ -26,7 +27,8 @@ use Rattle.layer_map.specs.Plan.{Plan}
 use Rattle.carafe_core.specs.Settings.{BridgesSettings, SolveSettings, IsBridgesCall, IsSolveCall}
 use Rattle.carafe_core.specs.Causes.{IsMap, IsLayout, HasFile, HasNets}
 use Rattle.carafe_core.proofs.NeverTooLong.{never_too_long, map_never_too_long}
-use Rattle.carafe_core.specs.Answers.{Shown, Text, Count, IsUnwritten, IsFailure, IsOutcome, IsBridgesFailure, IsSolveFailure, map_refused_as, refused_as, layout_refused_as, sweep_refused_as}
+use Rattle.probe_io.proofs.WrittenLemmas.{AppendsFront-whole}
+use Rattle.carafe_core.specs.Answers.{Shown, Text, Count, HasRisen, IsUnwritten, IsAppended, IsFrontAppended, IsFailure, IsOutcome, IsTried, IsAnswer, line_of, IsBridgesFailure, IsSolveFailure, map_refused_as, refused_as, layout_refused_as, sweep_refused_as}
 
 -- a map that is refused
 by_map_fault : (shelf : Shown) (settings : BridgesSettings) (bytes : List ℕ) (fault : MapRefusal) → IsMap shelf.files settings bytes → (fault ≢ NoMapMemory → RefusesMap bytes fault) → IsBridgesFailure shelf (map_refused_as fault) settings
@@ -135,6 +137,23 @@ failed words shelf out faults (OpenFault which) failure unwritten = record { fai
 failed words shelf out faults (ReadFault which) failure unwritten = record { failure = failure; unwritten = unwritten }
 failed words shelf out faults (WriteFault stream) failure unwritten = absurd failure
 failed words shelf out faults NoMemory failure unwritten = record { front = inl unwritten }
+
+-- a line that was tried is written whole, unless the sink failed
+tried : {T E : Type 0} (diag : Text) (faults : Count) (line : List ℕ) (result : Result T E) → OnOk result (IsAppended diag line) → OnErr result (IsFrontAppended diag line) → OnErr result (HasRisen faults) → IsTried diag faults line
+tried diag faults line (Ok x) ok front rose = record { front = AppendsFront-whole ok; whole = λ quiet. ok }
+tried diag faults line (Err e) ok front rose = record { front = front; whole = λ quiet. absurd (quiet rose) }
+
+-- what is told where there is neither a whole report nor a refusal
+pub told : {T E : Type 0} (words : List (List ℕ)) (shelf : Shown) (out diag : Text) (m n : Count) (status : Status) (result : Result T E) → (status ≡ Done → ⊥) → (status ≡ DoneUndecided → ⊥) → ((refusal : Refusal) → status ≡ Refused refusal → ⊥)
+    → IsOutcome words shelf out m status → OnOk result (IsAppended diag (line_of status)) → OnErr result (IsFrontAppended diag (line_of status)) → OnErr result (HasRisen n) → IsAnswer words shelf out diag m n status
+told words shelf out diag m n Done result not_done not_undecided not_refused outcome ok front rose = absurd (not_done refl)
+told words shelf out diag m n DoneUndecided result not_done not_undecided not_refused outcome ok front rose = absurd (not_undecided refl)
+told words shelf out diag m n (Refused refusal) result not_done not_undecided not_refused outcome ok front rose = absurd (not_refused refusal refl)
+told words shelf out diag m n (OpenFault which) result not_done not_undecided not_refused outcome ok front rose = record { outcome = outcome; told = tried diag n _ result ok front rose }
+told words shelf out diag m n (ReadFault which) result not_done not_undecided not_refused outcome ok front rose = record { outcome = outcome; told = tried diag n _ result ok front rose }
+told words shelf out diag m n (WriteFault Out) result not_done not_undecided not_refused outcome ok front rose = record { outcome = outcome; told = tried diag n _ result ok front rose }
+told words shelf out diag m n (WriteFault Diag) result not_done not_undecided not_refused outcome ok front rose = absurd outcome
+told words shelf out diag m n NoMemory result not_done not_undecided not_refused outcome ok front rose = record { outcome = outcome; told = tried diag n _ result ok front rose }
 
 -- the bridges of the same nets, for the same sides
 pub many_named : {a b : Nets} {s t : List SideWeight} → a ≡ b → s ≡ t → HasManyBridges a s → HasManyBridges b t

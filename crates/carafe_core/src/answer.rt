@@ -57,14 +57,15 @@ fn answered<H: Shelf, K: Sink, E: Sink>(
         (count (E.faults diag.old) (E.faults diag.new)) result }
 {
     let status = report(alloc, words, shelf, out);
-    if status == Status::Done {
-        return status;
-    }
-    if status == Status::DoneUndecided {
-        return status;
-    }
-    match (status.put_line(diag), status) {
-        (Err(_), Status::Refused(_)) => Status::WriteFault(Stream::Diag),
-        _ => status,
+    match status {
+        Status::Done | Status::DoneUndecided => status,
+        Status::Refused(_) => match status.put_line(diag) {
+            Ok(()) => status,
+            Err(_) => Status::WriteFault(Stream::Diag),
+        },
+        _ => {
+            let _ = status.put_line(diag);
+            status
+        }
     }
 }

@@ -1,6 +1,6 @@
 -- The text of a `solve` report.
-use Rattle.std.specs.Prelude.{◌≡◌, ◌⊎◌, ℕ, suc, ℤ, pos, neg_ℤ, Bool, if◌then◌else◌, List, [], ◌∷◌, ◌++◌, length, codes, Option}
-use Rattle.std.specs.List.{concat, AllZip}
+use Rattle.std.specs.Prelude.{◌≡◌, ◌⊎◌, ℕ, ℤ, pos, neg_ℤ, Bool, if◌then◌else◌, List, [], ◌∷◌, ◌++◌, length, map, codes, Option}
+use Rattle.std.specs.List.{concat, enumerate_from, AllZip}
 use Rattle.std.specs.Fmt.{decimal}
 use Rattle.probe_io.specs.Written.{Appends, AppendsFront}
 use Rattle.clause_base.specs.Literals.{IsRising}
@@ -29,23 +29,26 @@ pub record IsSortedForm (file formula : Clauses) : Type 0 where
 
 -- ---- the lines
 
+-- the budget, the number of variables and that of clauses, behind the command
+unfoldable pub numbers_text : ℕ → ℕ → ℕ → List ℕ
+numbers_text budget vars clauses =
+    concat (codes "carafe solve 1\nbudget " ∷ decimal budget ∷ codes "\nformula " ∷ decimal vars ∷ codes " " ∷ decimal clauses ∷ codes "\n" ∷ [])
+
 -- the lines before the clauses
-unfoldable pub header : ℕ → Clauses → List ℕ
-header budget formula =
-    concat (codes "carafe solve 1\nbudget " ∷ decimal budget ∷ codes "\nformula " ∷ decimal formula.vars ∷ codes " " ∷ decimal (length formula.clauses) ∷ codes "\n" ∷ [])
+abbrev pub header : ℕ → Clauses → List ℕ
+header budget formula = numbers_text budget formula.vars (length formula.clauses)
 
 -- the literal of this variable that is true where the variable has this value
 abbrev pub literal_of : ℕ → Bool → ℤ
 literal_of variable value = if value then pos variable else neg_ℤ (pos variable)
 
--- the true literals of variables that count on from this one, given their values
-abbrev pub literals_from : ℕ → List Bool → List ℤ
-literals_from variable [] = []
-literals_from variable (value ∷ values) = literal_of variable value ∷ literals_from (suc variable) values
+-- the true literal of each variable, from 1, given the variables' values
+abbrev pub true_literals : List Bool → List ℤ
+true_literals values = map (λ at. literal_of at.0 at.1) (enumerate_from 1 values)
 
--- the line of values: the true literal of each variable, from 1
+-- the line of values: the true literal of each variable
 unfoldable pub values_line : List Bool → List ℕ
-values_line values = concat (codes "values " ∷ clause_text (literals_from 1 values) ∷ codes "\n" ∷ [])
+values_line values = concat (codes "values " ∷ clause_text (true_literals values) ∷ codes "\n" ∷ [])
 
 -- the last line
 abbrev pub verdict_line : Verdict → List ℕ
@@ -88,9 +91,9 @@ pub record IsReportSoFar (file : Clauses) (budget : ℕ) (text : List ℕ) : Typ
   pub whole : text ≡ header budget formula ++ text_of said
   pub so_far : IsProofSoFar formula budget said
 
--- the text is empty, or a report, or one so far
+-- the text is a report, or one so far
 abbrev pub IsReportOrSoFar : Clauses → ℕ → List ℕ → Type 0
-IsReportOrSoFar file budget text = (text ≡ []) ⊎ (IsReportSoFar file budget text ⊎ ((ending : Ending) × IsReport file budget ending text))
+IsReportOrSoFar file budget text = IsReportSoFar file budget text ⊎ ((ending : Ending) × IsReport file budget ending text)
 
 -- ---- what a call writes
 
@@ -101,7 +104,11 @@ pub record WritesReport (file : Clauses) (budget : ℕ) (ending : Ending) (old n
   pub written : Appends old new text
 
 -- a front of a report, or of one so far, was appended
-pub record WritesFront (file : Clauses) (budget : ℕ) (old new : Option (List ℕ)) : Type 0 where
+pub record AppendsReportFront (file : Clauses) (budget : ℕ) (old new : Option (List ℕ)) : Type 0 where
   pub text : List ℕ
   pub report : IsReportOrSoFar file budget text
   pub written : AppendsFront old new text
+
+-- nothing was written, or such a front
+abbrev pub WritesFront : Clauses → ℕ → Option (List ℕ) → Option (List ℕ) → Type 0
+WritesFront file budget old new = (new ≡ old) ⊎ AppendsReportFront file budget old new

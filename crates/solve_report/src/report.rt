@@ -16,7 +16,7 @@ pub fn write<K: Sink>(
     budget: u32,
     out: &mut K,
 ) -> Result<Ending, ReportFault>
-    requires some { 0 < budget }
+    requires { 0 < budget }
     ensures report { IfOk result (λ ending. WritesReport formula.now budget ending (K.written out.old) (K.written out.new)) }
     ensures front { OnErr result (WritesFront formula.now budget (K.written out.old) (K.written out.new)) }
     ensures decided { 3 ^ formula.now.vars ≤ budget → result ≡ Ok Ending.Undecided → ⊥ }

@@ -16,7 +16,6 @@ use Rattle.defect_sweep.specs.declared.refusal.SweepRefusal.TheVariants.{TooMany
 use Rattle.net_trace.specs.Touching.{Nets}
 use Rattle.defect_sweep.specs.declared.sides.SideWeight.{SideWeight}
 use Rattle.defect_sweep.specs.Bridges.{HasManyBridges}
-use Rattle.carafe_core.specs.declared.status.Which.{Which}
 use Rattle.carafe_core.specs.declared.status.Which.TheVariants.{Map, Cif, Formula}
 use Rattle.carafe_core.specs.declared.status.Refusal.{Refusal}
 use Rattle.carafe_core.specs.declared.status.Stream.TheVariants.{Out, Diag}

@@ -1,6 +1,6 @@
 //! The command `solve`.
 
-ghost use Rattle.std.specs.Prelude.{◌≡◌, ℕ, ◌<◌, ◌≤◌, List, IfOk, IfErr};
+ghost use Rattle.std.specs.Prelude.{◌≡◌, ℕ, ◌<◌, List, IfOk, IfErr};
 ghost use Rattle.carafe_core.specs.Settings.{solve_settings, IsSolveCall};
 ghost use Rattle.carafe_core.specs.Causes.{HasFormula};
 ghost use Rattle.carafe_core.specs.Answers.{count, text, shown, formula_refused_as, IsSolveFailure, IsOutcome};

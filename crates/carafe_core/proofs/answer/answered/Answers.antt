@@ -1,4 +1,3 @@
-use Rattle.std.proofs.Common.{refl}
 use Rattle.carafe_core.proofs.CauseFacts.{told}
 use Rattle.carafe_core.proofs.answer.answered.Goals as goal
 

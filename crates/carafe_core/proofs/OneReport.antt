@@ -6,7 +6,7 @@ use Rattle.defect_sweep.specs.declared.sides.SideWeight.{SideWeight}
 use Rattle.defect_sweep.specs.Counting.{Count}
 use Rattle.bridge_rank.specs.Ranking.{IsRanked}
 use Rattle.carafe_core.specs.Report.{report_text, wire_names, IsRanking}
-use Rattle.carafe_core.specs.Causes.{IsReportOf}
+use Rattle.carafe_core.specs.Causes.{IsBridgesReportOf}
 use Rattle.net_trace.specs.Same.{AreSameNets}
 use Rattle.defect_sweep.proofs.TracedCounts.{counts_alike}
 use Rattle.bridge_rank.proofs.Ranks.{one_ranking}
@@ -17,7 +17,7 @@ one_ranked : (a b : Nets) (sides : List SideWeight) (ranked others : List Count)
 one_ranked a b sides ranked others same here there =
     one_ranking b sides there.counts ranked others there.counted (subst (λ counts. IsRanked counts ranked) (counts_alike a b sides here.counts there.counts same here.counted there.counted) here.ranks) there.ranks
 
-pub one_report : (words : List (List ℕ)) (list : List File) (text other : List ℕ) → IsReportOf words (Some list) text → IsReportOf words (Some list) other → text ≡ other
+pub one_report : (words : List (List ℕ)) (list : List File) (text other : List ℕ) → IsBridgesReportOf words (Some list) text → IsBridgesReportOf words (Some list) other → text ≡ other
 one_report words list text other a b =
     let here = a.holds in
     let there = b.holds in

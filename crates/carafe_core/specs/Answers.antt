@@ -1,8 +1,8 @@
 -- What each status says of the call that gives it.
-use Rattle.std.specs.Prelude.{◌≡◌, ℕ, ◌⊎◌, List, [], ◌∷◌, Option, Some, codes}
+use Rattle.std.specs.Prelude.{◌≡◌, ℕ, ◌<◌, ◌^◌, ◌⊎◌, List, [], ◌∷◌, Option, Some, codes}
 use Rattle.std.specs.List.{concat}
 use Rattle.std.specs.Fmt.{decimal}
-use Rattle.probe_io.specs.Files.{File, Lacks}
+use Rattle.probe_io.specs.Files.{File, Lacks, IsFileOver}
 use Rattle.probe_io.specs.Causes.{Rose}
 use Rattle.probe_io.specs.Written.{Appends, AppendsFront}
 use Rattle.cif_reader.specs.declared.refusal.CifRefusal.{CifRefusal}
@@ -17,25 +17,33 @@ use Rattle.layout_extract.specs.declared.refusal.LayoutRefusal.{LayoutRefusal}
 use Rattle.layout_extract.specs.declared.refusal.LayoutRefusal.TheVariants.{Flat, TooManyNets, LabelAmbiguous, NoMemory as NoLayoutMemory}
 use Rattle.defect_sweep.specs.declared.refusal.SweepRefusal.{SweepRefusal}
 use Rattle.defect_sweep.specs.declared.refusal.SweepRefusal.TheVariants.{TooManyBridges, NoMemory as NoSweepMemory}
-use Rattle.carafe_core.specs.declared.settings.WordRefusal.TheVariants.{Usage, BadSide}
+use Rattle.clause_base.specs.declared.faults.FormulaFault.{FormulaFault}
+use Rattle.clause_base.specs.declared.faults.FormulaFault.TheVariants.{TooLong, Syntax as FormulaSyntax, TooLarge, NoMemory as NoFormulaMemory}
+use Rattle.clause_base.specs.Formulas.{Clauses}
+use Rattle.solve_report.specs.declared.ending.Ending.TheVariants.{Decided, Undecided}
+use Rattle.solve_report.specs.Report.{WritesReport, WritesFront}
+use Rattle.carafe_core.specs.declared.settings.WordRefusal.{WordRefusal}
+use Rattle.carafe_core.specs.declared.settings.WordRefusal.TheVariants.{Usage, BadSide, BadBudget}
 use Rattle.carafe_core.specs.declared.status.Which.{Which}
-use Rattle.carafe_core.specs.declared.status.Which.TheVariants.{Map, Cif}
+use Rattle.carafe_core.specs.declared.status.Which.TheVariants.{Map, Cif, Formula}
 use Rattle.carafe_core.specs.declared.status.Stream.TheVariants.{Out, Diag}
 use Rattle.carafe_core.specs.declared.status.Refusal.{Refusal}
-use Rattle.carafe_core.specs.declared.status.Refusal.TheVariants.{Words, Map as OfMap, Cif as OfCif, Layout as OfLayout, Sweep as OfSweep}
+use Rattle.carafe_core.specs.declared.status.Refusal.TheVariants.{Words, Map as OfMap, Cif as OfCif, Layout as OfLayout, Sweep as OfSweep, Formula as OfFormula}
 use Rattle.carafe_core.specs.declared.status.Status.{Status}
-use Rattle.carafe_core.specs.declared.status.Status.TheVariants.{Done, Refused, OpenFault, ReadFault, WriteFault, NoMemory}
-use Rattle.carafe_core.specs.Settings.{Settings, name_in, ForSettings, IsWordCause}
-use Rattle.carafe_core.specs.Causes.{IsReportOf, Cause, IsMapCause, IsCifCause, IsLayoutCause, IsSweepCause, IsReached}
+use Rattle.carafe_core.specs.declared.status.Status.TheVariants.{Done, DoneUndecided, Refused, OpenFault, ReadFault, WriteFault, NoMemory}
+use Rattle.carafe_core.specs.Settings.{BridgesSettings, SolveSettings, ForBridges, ForSolve, IsWordCause}
+use Rattle.carafe_core.specs.Causes.{longest, too_long, IsBridgesReportOf, HasFormula, MayBeUndecided, Cause, IsMapCause, IsCifCause, IsLayoutCause, IsSweepCause, IsFormulaCause, IsMapped}
 
 -- the exit status of the program
 abbrev pub exit_of : Status → ℕ
 exit_of Done = 0
+exit_of DoneUndecided = 1
 exit_of (Refused (Words refusal)) = 3
 exit_of (Refused (OfMap refusal)) = 2
 exit_of (Refused (OfCif refusal)) = 2
 exit_of (Refused (OfLayout refusal)) = 2
 exit_of (Refused (OfSweep refusal)) = 2
+exit_of (Refused (OfFormula fault)) = 2
 exit_of (OpenFault which) = 4
 exit_of (ReadFault which) = 4
 exit_of (WriteFault stream) = 5
@@ -103,19 +111,35 @@ abbrev pub sweep_line : SweepRefusal → List ℕ
 sweep_line TooManyBridges = codes "carafe: TooManyBridges\n"
 sweep_line NoSweepMemory = codes "carafe: NoMemory\n"
 
+-- the line of a refused formula
+abbrev pub formula_line : FormulaFault → List ℕ
+formula_line TooLong = codes "carafe: FormulaTooLong\n"
+formula_line (FormulaSyntax place) = place_line (codes "FormulaSyntax") place
+formula_line (TooLarge place) = place_line (codes "FormulaTooLarge") place
+formula_line NoFormulaMemory = codes "carafe: NoMemory\n"
+
+-- the line of refused words
+abbrev pub word_line : WordRefusal → List ℕ
+word_line Usage = codes "carafe: Usage\n"
+word_line BadSide = codes "carafe: BadSide\n"
+word_line BadBudget = codes "carafe: BadBudget\n"
+
 -- the line on the diagnostics stream
 abbrev pub line_of : Status → List ℕ
 line_of Done = []
-line_of (Refused (Words Usage)) = codes "carafe: Usage\n"
-line_of (Refused (Words BadSide)) = codes "carafe: BadSide\n"
+line_of DoneUndecided = []
+line_of (Refused (Words refusal)) = word_line refusal
 line_of (Refused (OfMap refusal)) = map_line refusal
 line_of (Refused (OfCif refusal)) = cif_line refusal
 line_of (Refused (OfLayout refusal)) = layout_line refusal
 line_of (Refused (OfSweep refusal)) = sweep_line refusal
+line_of (Refused (OfFormula fault)) = formula_line fault
 line_of (OpenFault Map) = codes "carafe: OpenFault map\n"
 line_of (OpenFault Cif) = codes "carafe: OpenFault cif\n"
+line_of (OpenFault Formula) = codes "carafe: OpenFault formula\n"
 line_of (ReadFault Map) = codes "carafe: ReadFault map\n"
 line_of (ReadFault Cif) = codes "carafe: ReadFault cif\n"
+line_of (ReadFault Formula) = codes "carafe: ReadFault formula\n"
 line_of (WriteFault Out) = codes "carafe: WriteFault out\n"
 line_of (WriteFault Diag) = []
 line_of NoMemory = codes "carafe: NoMemory\n"
@@ -157,6 +181,13 @@ layout_refused_as (LabelAmbiguous place) = Refused (OfLayout (LabelAmbiguous pla
 abbrev pub sweep_refused_as : SweepRefusal → Status
 sweep_refused_as NoSweepMemory = NoMemory
 sweep_refused_as TooManyBridges = Refused (OfSweep TooManyBridges)
+
+-- the status of a formula that the reader refuses
+abbrev pub formula_refused_as : FormulaFault → Status
+formula_refused_as TooLong = Refused (OfFormula TooLong)
+formula_refused_as NoFormulaMemory = NoMemory
+formula_refused_as (FormulaSyntax place) = Refused (OfFormula (FormulaSyntax place))
+formula_refused_as (TooLarge place) = Refused (OfFormula (TooLarge place))
 
 -- a count of faults, before the call and after it
 pub record Count : Type 0 where
@@ -201,53 +232,116 @@ shown files starts starts' reads reads' = record {
   reads = count reads reads';
 }
 
--- a file could not be started: the shelf failed in this call, or tells that it has no such file
-pub record IsOpenFault (shelf : Shown) (which : Which) (settings : Settings) : Type 0 where
-  pub reached : IsReached which shelf.files settings
-  pub failed : Lacks shelf.files (name_in settings which) ⊎ HasRisen shelf.starts
+-- a file of this name could not be started: the shelf failed in this call, or tells that it has no such file
+pub record IsOpenFault (shelf : Shown) (name : List ℕ) : Type 0 where
+  pub failed : Lacks shelf.files name ⊎ HasRisen shelf.starts
 
 -- a file could not be read: the shelf failed in this call
-pub record IsReadFault (shelf : Shown) (which : Which) (settings : Settings) : Type 0 where
-  pub reached : IsReached which shelf.files settings
+pub record IsReadFault (shelf : Shown) : Type 0 where
   pub failed : HasRisen shelf.reads
 
--- why there is no report on the files that the settings name
-abbrev pub IsFileFailure : Shown → Status → Settings → Type 0
-IsFileFailure shelf Done settings = ⊥
-IsFileFailure shelf (Refused (Words refusal)) settings = ⊥
-IsFileFailure shelf (Refused (OfMap refusal)) settings = IsMapCause refusal shelf.files settings
-IsFileFailure shelf (Refused (OfCif refusal)) settings = IsCifCause refusal shelf.files settings
-IsFileFailure shelf (Refused (OfLayout refusal)) settings = IsLayoutCause refusal shelf.files settings
-IsFileFailure shelf (Refused (OfSweep refusal)) settings = IsSweepCause refusal shelf.files settings
-IsFileFailure shelf (OpenFault which) settings = IsOpenFault shelf which settings
-IsFileFailure shelf (ReadFault which) settings = IsReadFault shelf which settings
-IsFileFailure shelf (WriteFault stream) settings = ⊥
-IsFileFailure shelf NoMemory settings = Unit {0}
+-- why there are no bytes of a file of this kind and name
+abbrev pub IsUnread : Shown → Which → List ℕ → Status → Type 0
+IsUnread shelf which name Done = ⊥
+IsUnread shelf which name DoneUndecided = ⊥
+IsUnread shelf which name (Refused refusal) = (refusal ≡ too_long which) × IsFileOver shelf.files name (longest which)
+IsUnread shelf which name (OpenFault other) = (other ≡ which) × IsOpenFault shelf name
+IsUnread shelf which name (ReadFault other) = (other ≡ which) × IsReadFault shelf
+IsUnread shelf which name (WriteFault stream) = ⊥
+IsUnread shelf which name NoMemory = Unit {0}
+
+-- why there is no report on the files that the settings of a `bridges` call name
+abbrev pub IsBridgesFailure : Shown → Status → BridgesSettings → Type 0
+IsBridgesFailure shelf Done settings = ⊥
+IsBridgesFailure shelf DoneUndecided settings = ⊥
+IsBridgesFailure shelf (Refused (Words refusal)) settings = ⊥
+IsBridgesFailure shelf (Refused (OfMap refusal)) settings = IsMapCause refusal shelf.files settings
+IsBridgesFailure shelf (Refused (OfCif refusal)) settings = IsCifCause refusal shelf.files settings
+IsBridgesFailure shelf (Refused (OfLayout refusal)) settings = IsLayoutCause refusal shelf.files settings
+IsBridgesFailure shelf (Refused (OfSweep refusal)) settings = IsSweepCause refusal shelf.files settings
+IsBridgesFailure shelf (Refused (OfFormula fault)) settings = ⊥
+IsBridgesFailure shelf (OpenFault Map) settings = IsOpenFault shelf settings.map
+IsBridgesFailure shelf (OpenFault Cif) settings = IsMapped shelf.files settings × IsOpenFault shelf settings.cif
+IsBridgesFailure shelf (OpenFault Formula) settings = ⊥
+IsBridgesFailure shelf (ReadFault Map) settings = IsReadFault shelf
+IsBridgesFailure shelf (ReadFault Cif) settings = IsMapped shelf.files settings × IsReadFault shelf
+IsBridgesFailure shelf (ReadFault Formula) settings = ⊥
+IsBridgesFailure shelf (WriteFault stream) settings = ⊥
+IsBridgesFailure shelf NoMemory settings = Unit {0}
+
+-- why there is no report on the formula that the settings of a `solve` call name
+abbrev pub IsSolveFailure : Shown → Status → SolveSettings → Type 0
+IsSolveFailure shelf Done settings = ⊥
+IsSolveFailure shelf DoneUndecided settings = ⊥
+IsSolveFailure shelf (Refused (Words refusal)) settings = ⊥
+IsSolveFailure shelf (Refused (OfMap refusal)) settings = ⊥
+IsSolveFailure shelf (Refused (OfCif refusal)) settings = ⊥
+IsSolveFailure shelf (Refused (OfLayout refusal)) settings = ⊥
+IsSolveFailure shelf (Refused (OfSweep refusal)) settings = ⊥
+IsSolveFailure shelf (Refused (OfFormula fault)) settings = IsFormulaCause fault shelf.files settings
+IsSolveFailure shelf (OpenFault Map) settings = ⊥
+IsSolveFailure shelf (OpenFault Cif) settings = ⊥
+IsSolveFailure shelf (OpenFault Formula) settings = IsOpenFault shelf settings.formula
+IsSolveFailure shelf (ReadFault Map) settings = ⊥
+IsSolveFailure shelf (ReadFault Cif) settings = ⊥
+IsSolveFailure shelf (ReadFault Formula) settings = IsReadFault shelf
+IsSolveFailure shelf (WriteFault stream) settings = ⊥
+IsSolveFailure shelf NoMemory settings = Unit {0}
 
 -- why there is no report
 abbrev pub IsFailure : List (List ℕ) → Shown → Status → Type 0
 IsFailure words shelf Done = ⊥
+IsFailure words shelf DoneUndecided = ⊥
 IsFailure words shelf (Refused (Words refusal)) = IsWordCause refusal words
-IsFailure words shelf (Refused (OfMap refusal)) = ForSettings words (λ settings. IsFileFailure shelf (Refused (OfMap refusal)) settings)
-IsFailure words shelf (Refused (OfCif refusal)) = ForSettings words (λ settings. IsFileFailure shelf (Refused (OfCif refusal)) settings)
-IsFailure words shelf (Refused (OfLayout refusal)) = ForSettings words (λ settings. IsFileFailure shelf (Refused (OfLayout refusal)) settings)
-IsFailure words shelf (Refused (OfSweep refusal)) = ForSettings words (λ settings. IsFileFailure shelf (Refused (OfSweep refusal)) settings)
-IsFailure words shelf (OpenFault which) = ForSettings words (λ settings. IsFileFailure shelf (OpenFault which) settings)
-IsFailure words shelf (ReadFault which) = ForSettings words (λ settings. IsFileFailure shelf (ReadFault which) settings)
+IsFailure words shelf (Refused (OfMap refusal)) = ForBridges words (λ settings. IsBridgesFailure shelf (Refused (OfMap refusal)) settings)
+IsFailure words shelf (Refused (OfCif refusal)) = ForBridges words (λ settings. IsBridgesFailure shelf (Refused (OfCif refusal)) settings)
+IsFailure words shelf (Refused (OfLayout refusal)) = ForBridges words (λ settings. IsBridgesFailure shelf (Refused (OfLayout refusal)) settings)
+IsFailure words shelf (Refused (OfSweep refusal)) = ForBridges words (λ settings. IsBridgesFailure shelf (Refused (OfSweep refusal)) settings)
+IsFailure words shelf (Refused (OfFormula fault)) = ForSolve words (λ settings. IsSolveFailure shelf (Refused (OfFormula fault)) settings)
+IsFailure words shelf (OpenFault Map) = ForBridges words (λ settings. IsBridgesFailure shelf (OpenFault Map) settings)
+IsFailure words shelf (OpenFault Cif) = ForBridges words (λ settings. IsBridgesFailure shelf (OpenFault Cif) settings)
+IsFailure words shelf (OpenFault Formula) = ForSolve words (λ settings. IsSolveFailure shelf (OpenFault Formula) settings)
+IsFailure words shelf (ReadFault Map) = ForBridges words (λ settings. IsBridgesFailure shelf (ReadFault Map) settings)
+IsFailure words shelf (ReadFault Cif) = ForBridges words (λ settings. IsBridgesFailure shelf (ReadFault Cif) settings)
+IsFailure words shelf (ReadFault Formula) = ForSolve words (λ settings. IsSolveFailure shelf (ReadFault Formula) settings)
 IsFailure words shelf (WriteFault stream) = ⊥
 IsFailure words shelf NoMemory = Unit {0}
 
--- the whole report was written
+-- the whole report of a `bridges` call was written
 pub record IsReported (words : List (List ℕ)) (shelf : Shown) (out : Text) : Type 0 where
   pub report_text : List ℕ
-  pub report : IsReportOf words shelf.files report_text
+  pub report : IsBridgesReportOf words shelf.files report_text
   pub written : IsAppended out report_text
 
--- the report sink failed in this call, and a front of the report was written
-pub record IsCutOff (words : List (List ℕ)) (shelf : Shown) (out : Text) (faults : Count) : Type 0 where
+-- a front of the report of a `bridges` call was written
+pub record IsBegun (words : List (List ℕ)) (shelf : Shown) (out : Text) : Type 0 where
   pub report_text : List ℕ
-  pub report : IsReportOf words shelf.files report_text
+  pub report : IsBridgesReportOf words shelf.files report_text
   pub written : IsFrontAppended out report_text
+
+-- a whole report on the formula was written, with a verdict that decides
+pub record IsSolved (files : Option (List File)) (settings : SolveSettings) (out : Text) : Type 0 where
+  pub formula : Clauses
+  pub has : HasFormula files settings formula
+  pub written : WritesReport formula settings.budget Decided out.before out.after
+
+-- A whole report of an undecided search on the formula was written: 3 to the power of its number of variables is over
+-- the budget.
+pub record IsUndecided (files : Option (List File)) (settings : SolveSettings) (out : Text) : Type 0 where
+  pub formula : Clauses
+  pub has : HasFormula files settings formula
+  pub many : settings.budget < 3 ^ formula.vars
+  pub written : WritesReport formula settings.budget Undecided out.before out.after
+
+-- a front of a report on the formula, or of one so far, was written
+pub record IsSearchBegun (files : Option (List File)) (settings : SolveSettings) (out : Text) : Type 0 where
+  pub formula : Clauses
+  pub has : HasFormula files settings formula
+  pub written : WritesFront formula settings.budget out.before out.after
+
+-- the report sink failed in this call, and a front of what the words ask for was written
+pub record IsCutOff (words : List (List ℕ)) (shelf : Shown) (out : Text) (faults : Count) : Type 0 where
+  pub front : IsBegun words shelf out ⊎ ForSolve words (λ settings. IsSearchBegun shelf.files settings out)
   pub failed : HasRisen faults
 
 -- there is no report, for this reason, and nothing was written
@@ -255,15 +349,20 @@ pub record IsRefrained (words : List (List ℕ)) (shelf : Shown) (out : Text) (s
   pub failure : IsFailure words shelf status
   pub unwritten : IsUnwritten out
 
+-- no memory was found: nothing was written, but for a search that was begun
+pub record IsOutOfMemory (words : List (List ℕ)) (shelf : Shown) (out : Text) : Type 0 where
+  pub front : IsUnwritten out ⊎ ForSolve words (λ settings. IsSearchBegun shelf.files settings out)
+
 -- what each status says of the files and of the report sink
 abbrev pub IsOutcome : List (List ℕ) → Shown → Text → Count → Status → Type 0
-IsOutcome words shelf out faults Done = IsReported words shelf out
+IsOutcome words shelf out faults Done = IsReported words shelf out ⊎ ForSolve words (λ settings. IsSolved shelf.files settings out)
+IsOutcome words shelf out faults DoneUndecided = ForSolve words (λ settings. IsUndecided shelf.files settings out)
 IsOutcome words shelf out faults (WriteFault Out) = IsCutOff words shelf out faults
 IsOutcome words shelf out faults (WriteFault Diag) = ⊥
 IsOutcome words shelf out faults (Refused refusal) = IsRefrained words shelf out (Refused refusal)
 IsOutcome words shelf out faults (OpenFault which) = IsRefrained words shelf out (OpenFault which)
 IsOutcome words shelf out faults (ReadFault which) = IsRefrained words shelf out (ReadFault which)
-IsOutcome words shelf out faults NoMemory = IsRefrained words shelf out NoMemory
+IsOutcome words shelf out faults NoMemory = IsOutOfMemory words shelf out
 
 -- a front of the line was written to the diagnostics sink, and the whole line where that sink did not fail
 pub record IsTried (diag : Text) (faults : Count) (line : List ℕ) : Type 0 where
@@ -273,6 +372,7 @@ pub record IsTried (diag : Text) (faults : Count) (line : List ℕ) : Type 0 whe
 -- what each status says of the diagnostics sink
 abbrev pub IsTold : Text → Count → Status → Type 0
 IsTold diag faults Done = IsUnwritten diag
+IsTold diag faults DoneUndecided = IsUnwritten diag
 IsTold diag faults (Refused refusal) = IsAppended diag (line_of (Refused refusal))
 IsTold diag faults (OpenFault which) = IsTried diag faults (line_of (OpenFault which))
 IsTold diag faults (ReadFault which) = IsTried diag faults (line_of (ReadFault which))
@@ -294,6 +394,7 @@ pub record IsToldOutcome (words : List (List ℕ)) (shelf : Shown) (out diag : T
 abbrev pub IsAnswer : List (List ℕ) → Shown → Text → Text → Count → Count → Status → Type 0
 IsAnswer words shelf out diag out_faults diag_faults (WriteFault Diag) = IsUntold words shelf out diag out_faults diag_faults
 IsAnswer words shelf out diag out_faults diag_faults Done = IsToldOutcome words shelf out diag out_faults diag_faults Done
+IsAnswer words shelf out diag out_faults diag_faults DoneUndecided = IsToldOutcome words shelf out diag out_faults diag_faults DoneUndecided
 IsAnswer words shelf out diag out_faults diag_faults (WriteFault Out) = IsToldOutcome words shelf out diag out_faults diag_faults (WriteFault Out)
 IsAnswer words shelf out diag out_faults diag_faults (Refused refusal) = IsToldOutcome words shelf out diag out_faults diag_faults (Refused refusal)
 IsAnswer words shelf out diag out_faults diag_faults (OpenFault which) = IsToldOutcome words shelf out diag out_faults diag_faults (OpenFault which)
@@ -303,6 +404,7 @@ IsAnswer words shelf out diag out_faults diag_faults NoMemory = IsToldOutcome wo
 -- a device failed, or no memory was found, before there was an answer on the input
 abbrev pub IsInterrupted : Status → Type 0
 IsInterrupted Done = ⊥
+IsInterrupted DoneUndecided = ⊥
 IsInterrupted (Refused refusal) = ⊥
 IsInterrupted (OpenFault which) = Unit {0}
 IsInterrupted (ReadFault which) = Unit {0}
@@ -316,9 +418,18 @@ abbrev pub RefusesWhere : List (List ℕ) → Option (List File) → Status → 
 RefusesWhere words told status = (refusal : Refusal) (files : List File) → told ≡ Some files
     → Cause refusal words (Some files) → (status ≡ Refused refusal) ⊎ IsInterrupted status
 
--- the files are told, the words name two of them, and no cause of a refusal stands in words and files
+-- the map and the layout that the settings name are there
+pub record AreThere (files : List File) (settings : BridgesSettings) : Type 0 where
+  pub map : Lacks (Some files) settings.map → ⊥
+  pub cif : Lacks (Some files) settings.cif → ⊥
+
+-- the formula that the settings name is there
+pub record IsThere (files : List File) (settings : SolveSettings) : Type 0 where
+  pub formula : Lacks (Some files) settings.formula → ⊥
+
+-- the files are told, those that the words name are there, and no cause of a refusal stands in words and files
 pub record IsInOrder (words : List (List ℕ)) (files : List File) : Type 0 where
-  pub there : ForSettings words (λ settings. (which : Which) → Lacks (Some files) (name_in settings which) → ⊥)
+  pub there : ForBridges words (λ settings. AreThere files settings) ⊎ ForSolve words (λ settings. IsThere files settings)
   pub no_cause : (refusal : Refusal) → Cause refusal words (Some files) → ⊥
 
 -- no count of faults rose in the call
@@ -328,7 +439,18 @@ pub record IsFaultless (shelf : Shown) (out_faults diag_faults : Count) : Type 0
   pub out : HasRisen out_faults → ⊥
   pub diag : HasRisen diag_faults → ⊥
 
+-- The whole report is written, and its verdict is undecided only where the budget lets a search end so; or no memory was
+-- found.
+abbrev pub IsComplete : List (List ℕ) → Option (List File) → Status → Type 0
+IsComplete words files Done = Unit {0}
+IsComplete words files DoneUndecided = ForSolve words (λ settings. MayBeUndecided files settings)
+IsComplete words files (Refused refusal) = ⊥
+IsComplete words files (OpenFault which) = ⊥
+IsComplete words files (ReadFault which) = ⊥
+IsComplete words files (WriteFault stream) = ⊥
+IsComplete words files NoMemory = Unit {0}
+
 -- where input and devices are in order, the report is written, unless no memory was found
 abbrev pub ReportsWhere : List (List ℕ) → Shown → Count → Count → Status → Type 0
 ReportsWhere words shelf out_faults diag_faults status = (files : List File) → shelf.files ≡ Some files
-    → IsInOrder words files → IsFaultless shelf out_faults diag_faults → (status ≡ Done) ⊎ (status ≡ NoMemory)
+    → IsInOrder words files → IsFaultless shelf out_faults diag_faults → IsComplete words (Some files) status

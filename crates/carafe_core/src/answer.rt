@@ -3,10 +3,10 @@
 ghost use Rattle.std.specs.Prelude.{◌≡◌, ℕ, ◌≤◌};
 ghost use Rattle.carafe_core.specs.Answers.{count, text, shown, IsOutcome, IsAnswer, RefusesWhere, ReportsWhere};
 
-use crate::report::put_report;
-use crate::settings::read_words;
+use crate::bridges::report_bridges;
+use crate::settings::{Command, read_words};
+use crate::solve::report_search;
 use crate::status::{Status, Stream};
-use crate::subject::read_subject;
 use probe_io::{Name, Shelf, Sink};
 use std::alloc::Global;
 
@@ -16,19 +16,13 @@ fn report<H: Shelf, K: Sink>(alloc: Global, words: &[Name], shelf: &mut H, out: 
         (H.read_faults shelf.old) (H.read_faults shelf.new)) (text (K.written out.old) (K.written out.new))
         (count (K.faults out.old) (K.faults out.new)) result }
 {
-    let settings = match read_words(alloc, words) {
-        Ok(settings) => settings,
-        Err(status) => return status,
-    };
-    let subject = match read_subject(alloc, &settings, shelf) {
-        Ok(subject) => subject,
-        Err(status) => return status,
-    };
-    match put_report(out, settings.sides.as_slice(), &subject) {
-        Ok(()) => Status::Done,
-        Err(_) => Status::WriteFault(Stream::Out),
+    match read_words(alloc, words) {
+        Ok(Command::Bridges(settings)) => report_bridges(alloc, &settings, shelf, out),
+        Ok(Command::Solve(settings)) => report_search(alloc, &settings, shelf, out),
+        Err(status) => status,
     }
 }
+
 /// Does what the words ask for and says how that ended.
 pub fn carafe<H: Shelf, K: Sink, E: Sink>(
     alloc: Global,
@@ -63,11 +57,15 @@ fn answered<H: Shelf, K: Sink, E: Sink>(
         (count (E.faults diag.old) (E.faults diag.new)) result }
 {
     let status = report(alloc, words, shelf, out);
-    if status == Status::Done {
-        return status;
-    }
-    match (status.put_line(diag), status) {
-        (Err(_), Status::Refused(_)) => Status::WriteFault(Stream::Diag),
-        _ => status,
+    match status {
+        Status::Done | Status::DoneUndecided => status,
+        Status::Refused(_) => match status.put_line(diag) {
+            Ok(()) => status,
+            Err(_) => Status::WriteFault(Stream::Diag),
+        },
+        _ => {
+            let _ = status.put_line(diag);
+            status
+        }
     }
 }

@@ -1,16 +1,17 @@
-//! From the names of files to the layer map and the layout that they spell.
+//! From the names of files to their bytes, and to the layer map and the layout that these spell.
 
 ghost use Rattle.std.specs.Prelude.{◌≡◌, ℕ, ◌^◌, ◌<◌, ◌≤◌, length, IfOk, IfErr};
 ghost use Rattle.probe_io.specs.Files.{IsFile};
-ghost use Rattle.carafe_core.specs.Settings.{settings_of, name_in};
-ghost use Rattle.carafe_core.specs.Causes.{longest, too_long, IsReached, HasPlan, HasFile};
-ghost use Rattle.carafe_core.specs.Answers.{shown, map_refused_as, refused_as, IsFileFailure};
+ghost use Rattle.carafe_core.specs.Settings.{bridges_settings};
+ghost use Rattle.carafe_core.specs.Causes.{longest, too_long, HasPlan, HasFile};
+ghost use Rattle.carafe_core.specs.Answers.{shown, map_refused_as, refused_as, IsUnread, IsBridgesFailure};
 
-use crate::settings::Settings;
+use crate::settings::BridgesSettings;
 use crate::status::{Refusal, Status, Which};
 use cif_reader::{CifFile, CifRefusal};
+use clause_base::FormulaFault;
 use layer_map::{LayerMap, MapRefusal};
-use probe_io::{ReadAllFault, Shelf, read_all};
+use probe_io::{Name, ReadAllFault, Shelf, read_all};
 use std::alloc::Global;
 
 impl Which {
@@ -23,6 +24,7 @@ impl Which {
         match self {
             Which::Map => 65_536,
             Which::Cif => 16_777_216,
+            Which::Formula => 16_777_216,
         }
     }
 
@@ -33,27 +35,27 @@ impl Which {
         match self {
             Which::Map => Refusal::Map(MapRefusal::MapTooLong),
             Which::Cif => Refusal::Cif(CifRefusal::CifTooLong),
+            Which::Formula => Refusal::Formula(FormulaFault::TooLong),
         }
     }
 }
 
-/// The file of this kind that the settings name.
-fn read_file<H: Shelf>(
+/// The bytes of the file of this kind and name.
+pub(crate) fn read_file<H: Shelf>(
     alloc: Global,
     shelf: &mut H,
-    settings: &Settings,
+    name: &Name,
     which: Which,
 ) -> Result<Vec<u8>, Status>
-    requires reached { IsReached which (H.files shelf.old) (settings_of settings.now) }
-    ensures file { IfOk result (λ bytes. IsFile (H.files shelf.old) (name_in (settings_of settings.now) which) bytes.items) }
+    ensures file { IfOk result (λ bytes. IsFile (H.files shelf.old) name.now bytes.items) }
     ensures short { IfOk result (λ bytes. length bytes.items ≤ longest which) }
-    ensures failure { IfErr result (λ status. IsFileFailure (shown (H.files shelf.old) (H.start_faults shelf.old)
-        (H.start_faults shelf.new) (H.read_faults shelf.old) (H.read_faults shelf.new)) status (settings_of settings.now)) }
+    ensures failure { IfErr result (IsUnread (shown (H.files shelf.old) (H.start_faults shelf.old)
+        (H.start_faults shelf.new) (H.read_faults shelf.old) (H.read_faults shelf.new)) which name.now) }
     ensures same { H.files shelf.new ≡ H.files shelf.old }
     ensures later_starts { H.start_faults shelf.old ≤ H.start_faults shelf.new }
     ensures later_reads { H.read_faults shelf.old ≤ H.read_faults shelf.new }
 {
-    match read_all(alloc, shelf, settings.name(which).as_str(), which.longest()) {
+    match read_all(alloc, shelf, name.as_str(), which.longest()) {
         Ok(bytes) => Ok(bytes),
         Err(ReadAllFault::StartFailed) => Err(Status::OpenFault(which)),
         Err(ReadAllFault::ReadFailed) => Err(Status::ReadFault(which)),
@@ -66,16 +68,16 @@ fn read_file<H: Shelf>(
 pub(crate) fn read_map<H: Shelf>(
     alloc: Global,
     shelf: &mut H,
-    settings: &Settings,
+    settings: &BridgesSettings,
 ) -> Result<LayerMap, Status>
-    ensures plan { IfOk result (HasPlan (H.files shelf.old) (settings_of settings.now)) }
-    ensures failure { IfErr result (λ status. IsFileFailure (shown (H.files shelf.old) (H.start_faults shelf.old)
-        (H.start_faults shelf.new) (H.read_faults shelf.old) (H.read_faults shelf.new)) status (settings_of settings.now)) }
+    ensures plan { IfOk result (HasPlan (H.files shelf.old) (bridges_settings settings.now)) }
+    ensures failure { IfErr result (λ status. IsBridgesFailure (shown (H.files shelf.old) (H.start_faults shelf.old)
+        (H.start_faults shelf.new) (H.read_faults shelf.old) (H.read_faults shelf.new)) status (bridges_settings settings.now)) }
     ensures same { H.files shelf.new ≡ H.files shelf.old }
     ensures later_starts { H.start_faults shelf.old ≤ H.start_faults shelf.new }
     ensures later_reads { H.read_faults shelf.old ≤ H.read_faults shelf.new }
 {
-    let bytes = read_file(alloc, shelf, settings, Which::Map)?;
+    let bytes = read_file(alloc, shelf, settings.map, Which::Map)?;
     match layer_map::read(alloc, bytes.as_slice()) {
         Ok(map) => Ok(map),
         Err(refusal) => Err(map_refused(refusal)),
@@ -96,18 +98,18 @@ fn map_refused(refusal: MapRefusal) -> Status
 pub(crate) fn read_cif<H: Shelf>(
     alloc: Global,
     shelf: &mut H,
-    settings: &Settings,
+    settings: &BridgesSettings,
     map: &LayerMap,
 ) -> Result<CifFile, Status>
-    requires mapped { HasPlan (H.files shelf.old) (settings_of settings.now) map.now }
-    ensures file { IfOk result (HasFile (H.files shelf.old) (settings_of settings.now) map.now) }
-    ensures failure { IfErr result (λ status. IsFileFailure (shown (H.files shelf.old) (H.start_faults shelf.old)
-        (H.start_faults shelf.new) (H.read_faults shelf.old) (H.read_faults shelf.new)) status (settings_of settings.now)) }
+    requires mapped { HasPlan (H.files shelf.old) (bridges_settings settings.now) map.now }
+    ensures file { IfOk result (HasFile (H.files shelf.old) (bridges_settings settings.now) map.now) }
+    ensures failure { IfErr result (λ status. IsBridgesFailure (shown (H.files shelf.old) (H.start_faults shelf.old)
+        (H.start_faults shelf.new) (H.read_faults shelf.old) (H.read_faults shelf.new)) status (bridges_settings settings.now)) }
     ensures same { H.files shelf.new ≡ H.files shelf.old }
     ensures later_starts { H.start_faults shelf.old ≤ H.start_faults shelf.new }
     ensures later_reads { H.read_faults shelf.old ≤ H.read_faults shelf.new }
 {
-    let bytes = read_file(alloc, shelf, settings, Which::Cif)?;
+    let bytes = read_file(alloc, shelf, settings.cif, Which::Cif)?;
     match cif_reader::read(alloc, bytes.as_slice()) {
         Ok(file) => Ok(file),
         Err(refusal) => Err(refused(refusal)),

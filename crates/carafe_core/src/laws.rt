@@ -5,15 +5,19 @@ ghost use Rattle.probe_io.specs.Files.{File};
 ghost use Rattle.defect_sweep.specs.declared.sides.SideWeight.{SideWeight};
 ghost use Rattle.carafe_core.specs.declared.status.Refusal.{Refusal};
 ghost use Rattle.carafe_core.specs.Sides.{SpellsSides};
-ghost use Rattle.carafe_core.specs.Causes.{IsReportOf, Cause};
+ghost use Rattle.solve_report.specs.declared.ending.Ending.{Ending};
+ghost use Rattle.carafe_core.specs.Causes.{IsBridgesReportOf, IsSolveReportOf, Cause};
 
-/// Words and files have one report or one refusal at most, and never both. So every byte of a report is determined.
+/// Words and files have one refusal at most, and never a report beside it. Where they ask for `bridges` they have one
+/// report at most, so every byte of it is determined; a search may be reported on in several ways.
 pub fn one_answer()
-    ensures report { (words : List (List ℕ)) (files : List File) (text other : List ℕ) → IsReportOf words (Some files) text
-        → IsReportOf words (Some files) other → text ≡ other }
+    ensures report { (words : List (List ℕ)) (files : List File) (text other : List ℕ) → IsBridgesReportOf words (Some files) text
+        → IsBridgesReportOf words (Some files) other → text ≡ other }
     ensures refusal { (words : List (List ℕ)) (files : List File) (r q : Refusal) → Cause r words (Some files) → Cause q words (Some files) → r ≡ q }
-    ensures not_both { (words : List (List ℕ)) (files : List File) (text : List ℕ) (r : Refusal) → IsReportOf words (Some files) text
+    ensures not_both { (words : List (List ℕ)) (files : List File) (text : List ℕ) (r : Refusal) → IsBridgesReportOf words (Some files) text
         → Cause r words (Some files) → ⊥ }
+    ensures not_both_solved { (words : List (List ℕ)) (files : List File) (ending : Ending) (text : List ℕ) (r : Refusal)
+        → IsSolveReportOf words (Some files) ending text → Cause r words (Some files) → ⊥ }
 {}
 
 /// A word spells one list of sides at most.

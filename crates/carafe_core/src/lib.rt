@@ -1,21 +1,27 @@
 //! The top of carafe: from the words of a call and the files that they name to a written report and a status.
 //!
 //! The promise stands on the one call `carafe`. Over every list of words and every content of the files it answers
-//! `Done` only with the whole report written, `Refused` only where the cause of that refusal is the first that stands
-//! in words and files, and a fault only where that device failed in the call; and it refuses, or reports, wherever it
-//! should, unless a device fails or no memory is found. `specs/Answers.antt` says so status by status. Words and files
-//! have one report or one refusal at most: the law `one_answer`.
+//! `Done` or `DoneUndecided` only with a whole report written, `Refused` only where the cause of that refusal is the
+//! first that stands in words and files, and a fault only where that device failed in the call; and it refuses, or
+//! reports, wherever it should, unless a device fails or no memory is found. `specs/Answers.antt` says so status by
+//! status. Words and files have one refusal at most, none where they have a report, and `bridges` one report at most:
+//! the law `one_answer`.
 //!
-//! So far there is one command, `bridges MAP CIF SIDES`, for any layer map and any layout: the pairs of nets that a square
-//! defect can short, with exact counts, the likeliest first. The program `carafe_cli` stands on this crate.
+//! There are two commands. `bridges MAP CIF SIDES` lists, for any layer map and any layout, the pairs of nets that a
+//! square defect can short, with exact counts, the likeliest first. `solve FORMULA BUDGET` searches for values that
+//! solve a formula, and writes values, a refutation line by line, or that it came to its budget undecided. The program
+//! `carafe_cli` stands on this crate.
 #![tactic(auto)]
 
 mod answer;
+mod bridges;
 mod files;
 mod laws;
+mod numbers;
 mod report;
 mod settings;
 mod sides;
+mod solve;
 mod status;
 mod subject;
 

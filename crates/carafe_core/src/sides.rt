@@ -6,8 +6,8 @@ ghost use Rattle.std.specs.List.{slice_split, AllZip};
 ghost use Rattle.defect_sweep.specs.declared.sides.SideWeight.{SideWeight};
 ghost use Rattle.carafe_core.specs.Sides.{comma, size_of, IsSide, SpellsEntry, SpellsSides};
 
+use crate::numbers::read_number;
 use defect_sweep::SideWeight;
-use itoa::Buffer;
 use std::alloc::{AllocError, Global};
 
 /// The greatest side of a defect, in hundredths of a micron.
@@ -83,21 +83,6 @@ fn read_size(text: &str, weight: u32) -> Option<SideWeight>
         cells: 2 * size,
         weight,
     })
-}
-
-/// The number from 1 to `most` that the text spells in plain decimal, or `None` where it spells none.
-fn read_number(text: &str, most: u32) -> Option<u32>
-    ensures found { IfSome result (λ n. (1 ≤ n) × (n ≤ most) × (text.now ≡ decimal n)) }
-    ensures none { IfNone result ((n : ℕ) → 1 ≤ n → n ≤ most → text.now ≡ decimal n → ⊥) }
-{
-    let number = text.parse::<u32>().ok()?;
-    if number == 0 || number > most {
-        return None;
-    }
-    if Buffer::new().format(number) != text {
-        return None;
-    }
-    Some(number)
 }
 
 /// Whether each side is greater than the one before it.

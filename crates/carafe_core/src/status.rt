@@ -3,11 +3,12 @@
 ghost use Rattle.std.specs.Prelude.{◌≡◌, OnOk, OnErr};
 ghost use Rattle.probe_io.specs.Causes.{HasCause};
 ghost use Rattle.probe_io.specs.Written.{Appends, AppendsFront};
-ghost use Rattle.carafe_core.specs.Answers.{exit_of, line_of, map_line, cif_line, flat_line, layout_line, sweep_line, place_line, unsupported_line, undefined_line};
+ghost use Rattle.carafe_core.specs.Answers.{exit_of, line_of, word_line, formula_line, map_line, cif_line, flat_line, layout_line, sweep_line, place_line, unsupported_line, undefined_line};
 
 use crate::settings::WordRefusal;
 use cif_flatten::FlattenRefusal;
 use cif_reader::{CifRefusal, Feature};
+use clause_base::FormulaFault;
 use defect_sweep::SweepRefusal;
 use layer_map::{MapRefusal, Side};
 use layout_extract::LayoutRefusal;
@@ -20,6 +21,8 @@ pub enum Which {
     Map,
     /// The layout.
     Cif,
+    /// The formula.
+    Formula,
 }
 
 /// A stream that is written to.
@@ -44,6 +47,8 @@ pub enum Refusal {
     Layout(LayoutRefusal),
     /// Too many pairs of the layout's nets are met.
     Sweep(SweepRefusal),
+    /// The formula's text is refused.
+    Formula(FormulaFault),
 }
 
 /// How a call ends, as `IsAnswer` defines each.
@@ -51,6 +56,8 @@ pub enum Refusal {
 pub enum Status {
     /// The whole report was written.
     Done,
+    /// The whole report of a search was written that came to its budget undecided.
+    DoneUndecided,
     /// The input is refused.
     Refused(Refusal),
     /// The file could not be started.
@@ -70,6 +77,7 @@ impl Status {
     {
         match self {
             Status::Done => 0,
+            Status::DoneUndecided => 1,
             Status::Refused(Refusal::Words(_)) => 3,
             Status::Refused(_) => 2,
             Status::OpenFault(_) | Status::ReadFault(_) => 4,
@@ -78,33 +86,57 @@ impl Status {
         }
     }
 
-    /// Writes the line on the diagnostics stream, with its end: nothing after `Done`, and after a failure of that stream.
+    /// Writes the line on the diagnostics stream, with its end: nothing after a whole report, and after a failure of that
+    /// stream.
     pub(crate) fn put_line<K: Sink>(&self, diag: &mut K) -> Result<(), Failed>
         ensures ok { OnOk result (Appends (K.written diag.old) (K.written diag.new) (line_of self.now)) }
         ensures front { OnErr result (AppendsFront (K.written diag.old) (K.written diag.new) (line_of self.now)) }
         ensures cause { HasCause (K.faults diag.old) (K.faults diag.new) result }
     {
         match self {
-            Status::Done | Status::WriteFault(Stream::Diag) => Ok(()),
-            Status::Refused(Refusal::Words(WordRefusal::Usage)) => put_all(
-                diag,
-                b"carafe: Usage\n",
-            ),
-            Status::Refused(Refusal::Words(WordRefusal::BadSide)) => put_all(
-                diag,
-                b"carafe: BadSide\n",
-            ),
+            Status::Done | Status::DoneUndecided | Status::WriteFault(Stream::Diag) => Ok(()),
+            Status::Refused(Refusal::Words(refusal)) => put_word_line(diag, refusal),
             Status::Refused(Refusal::Map(refusal)) => put_map_line(diag, refusal),
             Status::Refused(Refusal::Cif(refusal)) => put_cif_line(diag, refusal),
             Status::Refused(Refusal::Layout(refusal)) => put_layout_line(diag, refusal),
             Status::Refused(Refusal::Sweep(refusal)) => put_sweep_line(diag, refusal),
+            Status::Refused(Refusal::Formula(fault)) => put_formula_line(diag, fault),
             Status::OpenFault(Which::Map) => put_all(diag, b"carafe: OpenFault map\n"),
             Status::OpenFault(Which::Cif) => put_all(diag, b"carafe: OpenFault cif\n"),
+            Status::OpenFault(Which::Formula) => put_all(diag, b"carafe: OpenFault formula\n"),
             Status::ReadFault(Which::Map) => put_all(diag, b"carafe: ReadFault map\n"),
             Status::ReadFault(Which::Cif) => put_all(diag, b"carafe: ReadFault cif\n"),
+            Status::ReadFault(Which::Formula) => put_all(diag, b"carafe: ReadFault formula\n"),
             Status::WriteFault(Stream::Out) => put_all(diag, b"carafe: WriteFault out\n"),
             Status::NoMemory => put_all(diag, b"carafe: NoMemory\n"),
         }
+    }
+}
+
+/// Writes the line of refused words.
+fn put_word_line<K: Sink>(diag: &mut K, refusal: &WordRefusal) -> Result<(), Failed>
+    ensures ok { OnOk result (Appends (K.written diag.old) (K.written diag.new) (word_line refusal.now)) }
+    ensures front { OnErr result (AppendsFront (K.written diag.old) (K.written diag.new) (word_line refusal.now)) }
+    ensures cause { HasCause (K.faults diag.old) (K.faults diag.new) result }
+{
+    match refusal {
+        WordRefusal::Usage => put_all(diag, b"carafe: Usage\n"),
+        WordRefusal::BadSide => put_all(diag, b"carafe: BadSide\n"),
+        WordRefusal::BadBudget => put_all(diag, b"carafe: BadBudget\n"),
+    }
+}
+
+/// Writes the line of a refused formula.
+fn put_formula_line<K: Sink>(diag: &mut K, fault: &FormulaFault) -> Result<(), Failed>
+    ensures ok { OnOk result (Appends (K.written diag.old) (K.written diag.new) (formula_line fault.now)) }
+    ensures front { OnErr result (AppendsFront (K.written diag.old) (K.written diag.new) (formula_line fault.now)) }
+    ensures cause { HasCause (K.faults diag.old) (K.faults diag.new) result }
+{
+    match fault {
+        FormulaFault::TooLong => put_all(diag, b"carafe: FormulaTooLong\n"),
+        FormulaFault::Syntax(place) => put_place(diag, b"FormulaSyntax", *place),
+        FormulaFault::TooLarge(place) => put_place(diag, b"FormulaTooLarge", *place),
+        FormulaFault::NoMemory => put_all(diag, b"carafe: NoMemory\n"),
     }
 }
 

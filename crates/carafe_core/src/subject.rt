@@ -3,14 +3,14 @@
 ghost use Rattle.std.specs.Prelude.{◌≡◌, ◌≤◌, Err, IfOk, IfErr};
 ghost use Rattle.defect_sweep.specs.Sides.{AreSides};
 ghost use Rattle.defect_sweep.specs.Bridges.{HasManyBridges};
-ghost use Rattle.carafe_core.specs.Settings.{settings_of};
+ghost use Rattle.carafe_core.specs.Settings.{bridges_settings};
 ghost use Rattle.carafe_core.specs.Causes.{HasPlan, HasNets};
 ghost use Rattle.carafe_core.specs.Report.{IsRanking};
 ghost use Rattle.carafe_core.specs.Subject.{IsSubject};
-ghost use Rattle.carafe_core.specs.Answers.{shown, layout_refused_as, sweep_refused_as, IsFileFailure};
+ghost use Rattle.carafe_core.specs.Answers.{shown, layout_refused_as, sweep_refused_as, IsBridgesFailure};
 
 use crate::files::{read_cif, read_map};
-use crate::settings::Settings;
+use crate::settings::BridgesSettings;
 use crate::status::{Refusal, Status};
 use bridge_rank::order;
 use defect_sweep::{CountList, PairCount, SideWeight, SweepRefusal, counts};
@@ -32,13 +32,13 @@ pub struct Subject {
 fn nets_of<H: Shelf>(
     alloc: Global,
     shelf: &mut H,
-    settings: &Settings,
+    settings: &BridgesSettings,
     map: &LayerMap,
 ) -> Result<Named, Status>
-    requires mapped { HasPlan (H.files shelf.old) (settings_of settings.now) map.now }
-    ensures nets { IfOk result (HasNets (H.files shelf.old) (settings_of settings.now) map.now) }
-    ensures failure { IfErr result (λ status. IsFileFailure (shown (H.files shelf.old) (H.start_faults shelf.old)
-        (H.start_faults shelf.new) (H.read_faults shelf.old) (H.read_faults shelf.new)) status (settings_of settings.now)) }
+    requires mapped { HasPlan (H.files shelf.old) (bridges_settings settings.now) map.now }
+    ensures nets { IfOk result (HasNets (H.files shelf.old) (bridges_settings settings.now) map.now) }
+    ensures failure { IfErr result (λ status. IsBridgesFailure (shown (H.files shelf.old) (H.start_faults shelf.old)
+        (H.start_faults shelf.new) (H.read_faults shelf.old) (H.read_faults shelf.new)) status (bridges_settings settings.now)) }
     ensures same { H.files shelf.new ≡ H.files shelf.old }
     ensures later_starts { H.start_faults shelf.old ≤ H.start_faults shelf.new }
     ensures later_reads { H.read_faults shelf.old ≤ H.read_faults shelf.new }
@@ -86,13 +86,13 @@ fn ranked_bridges(
 /// What the report on the files that the settings name is made on.
 pub(crate) fn read_subject<H: Shelf>(
     alloc: Global,
-    settings: &Settings,
+    settings: &BridgesSettings,
     shelf: &mut H,
 ) -> Result<Subject, Status>
     requires sides { AreSides settings.now.sides.items }
-    ensures subject { IfOk result (IsSubject (H.files shelf.old) (settings_of settings.now)) }
-    ensures failure { IfErr result (λ status. IsFileFailure (shown (H.files shelf.old) (H.start_faults shelf.old)
-        (H.start_faults shelf.new) (H.read_faults shelf.old) (H.read_faults shelf.new)) status (settings_of settings.now)) }
+    ensures subject { IfOk result (IsSubject (H.files shelf.old) (bridges_settings settings.now)) }
+    ensures failure { IfErr result (λ status. IsBridgesFailure (shown (H.files shelf.old) (H.start_faults shelf.old)
+        (H.start_faults shelf.new) (H.read_faults shelf.old) (H.read_faults shelf.new)) status (bridges_settings settings.now)) }
 {
     let map = read_map(alloc, shelf, settings)?;
     let named = nets_of(alloc, shelf, settings, &map)?;

@@ -1,7 +1,8 @@
-// The command on layer maps and layouts, through the top call.
+// The commands, through the top call.
 use crate::{Refusal, Status, Stream, Which, WordRefusal, carafe};
 use cif_flatten::FlattenRefusal;
 use cif_reader::{CifRefusal, Feature};
+use clause_base::FormulaFault;
 use layer_map::{MapRefusal, Side};
 use layout_extract::LayoutRefusal;
 use probe_io::{MemShelf, MemSink, Name};
@@ -78,6 +79,26 @@ fn call_on(
     cif: &str,
     faults: &Faults,
 ) -> Result<Ending, AllocError> {
+    call_over(alloc, words, &[("map", map), ("cif", cif)], faults)
+}
+
+/// Calls `carafe` with words that stand with single spaces, on the file `formula`.
+fn call_search(
+    alloc: Global,
+    words: &str,
+    formula: &str,
+    faults: &Faults,
+) -> Result<Ending, AllocError> {
+    call_over(alloc, words, &[("formula", formula)], faults)
+}
+
+/// Calls `carafe` with words that stand with single spaces, on files of these names.
+fn call_over(
+    alloc: Global,
+    words: &str,
+    texts: &[(&str, &str)],
+    faults: &Faults,
+) -> Result<Ending, AllocError> {
     let mut list = Vec::new(alloc);
     for word in words.split(' ') {
         if !word.is_empty() {
@@ -85,14 +106,12 @@ fn call_on(
         }
     }
     let mut files = Vec::new(alloc);
-    files.push((
-        Name::new(alloc, "map")?,
-        Vec::from_slice(alloc, map.as_bytes())?,
-    ))?;
-    files.push((
-        Name::new(alloc, "cif")?,
-        Vec::from_slice(alloc, cif.as_bytes())?,
-    ))?;
+    for (name, text) in texts {
+        files.push((
+            Name::new(alloc, name)?,
+            Vec::from_slice(alloc, text.as_bytes())?,
+        ))?;
+    }
     let step = if faults.step == 0 { 1 } else { faults.step };
     let mut shelf = MemShelf::new(files, Vec::from_slice(alloc, faults.shelf)?, step);
     let mut out = MemSink::new(alloc, Vec::from_slice(alloc, faults.out)?, step);
@@ -224,6 +243,11 @@ fn other_words_are_no_sides(rt: HostRuntime) -> Result<(), Fail> {
 fn refusals_come_in_order(rt: HostRuntime) -> Result<(), Fail> {
     let usage = (Refusal::Words(WordRefusal::Usage), "carafe: Usage\n", 3);
     let side = (Refusal::Words(WordRefusal::BadSide), "carafe: BadSide\n", 3);
+    let budget = (
+        Refusal::Words(WordRefusal::BadBudget),
+        "carafe: BadBudget\n",
+        3,
+    );
     let rows = [
         ("", TWO_BOXES, usage),
         ("--help", TWO_BOXES, usage),
@@ -235,6 +259,14 @@ fn refusals_come_in_order(rt: HostRuntime) -> Result<(), Fail> {
         ("bridges map cif 03", TWO_BOXES, side),
         ("bridges map cif +3", TWO_BOXES, side),
         ("bridges absent absent x", TWO_BOXES, side),
+        ("bridges cif 3", TWO_BOXES, usage),
+        ("solve cif", TWO_BOXES, usage),
+        ("solve map cif 3", TWO_BOXES, usage),
+        ("solve cif 0", TWO_BOXES, budget),
+        ("solve cif 01", TWO_BOXES, budget),
+        ("solve cif 1000001", TWO_BOXES, budget),
+        ("solve cif +1", TWO_BOXES, budget),
+        ("solve absent x", TWO_BOXES, budget),
     ];
     for (words, text, (refusal, line, exit)) in rows {
         let ending = call(rt.alloc(), words, text, &NONE)?;
@@ -469,6 +501,77 @@ fn layouts_are_refused_at_their_place(rt: HostRuntime) -> Result<(), Fail> {
         assert_eq!(rt; ending.status.exit_number(), 2, "{text}");
         assert_eq!(rt; ending.diag.bytes(), line.as_bytes(), "{text}");
         assert_eq!(rt; ending.out.bytes().len(), 0, "{text}");
+    }
+    Ok(())
+}
+
+/// Formulas, why each is refused, and the line that says so.
+const OTHER_FORMULAS: [(&str, FormulaFault, &str); 6] = [
+    ("", FormulaFault::Syntax(0), "carafe: FormulaSyntax 0\n"),
+    (
+        "p cnf 1 1 2 0",
+        FormulaFault::Syntax(10),
+        "carafe: FormulaSyntax 10\n",
+    ),
+    (
+        "p cnf 1 1 1",
+        FormulaFault::Syntax(11),
+        "carafe: FormulaSyntax 11\n",
+    ),
+    (
+        "c a comment\np cnf 1 1\n1 0\n1 0\n",
+        FormulaFault::Syntax(26),
+        "carafe: FormulaSyntax 26\n",
+    ),
+    (
+        "p cnf 1000001 1 1 0",
+        FormulaFault::TooLarge(6),
+        "carafe: FormulaTooLarge 6\n",
+    ),
+    (
+        "p cnf 1 4000001 1 0",
+        FormulaFault::TooLarge(8),
+        "carafe: FormulaTooLarge 8\n",
+    ),
+];
+
+#[test]
+fn formulas_are_refused_at_their_place(rt: HostRuntime) -> Result<(), Fail> {
+    for (text, fault, line) in OTHER_FORMULAS {
+        let ending = call_search(rt.alloc(), "solve formula 1000000", text, &NONE)?;
+        let status = Status::Refused(Refusal::Formula(fault));
+        assert_eq!(rt; ending.status, status, "{text}");
+        assert_eq!(rt; ending.status.exit_number(), 2, "{text}");
+        assert_eq!(rt; ending.diag.bytes(), line.as_bytes(), "{text}");
+        assert_eq!(rt; ending.out.bytes().len(), 0, "{text}");
+    }
+    Ok(())
+}
+
+// The formula is started at call 0, and its 14 bytes are read by the next.
+#[test]
+fn faults_of_a_formula_name_it(rt: HostRuntime) -> Result<(), Fail> {
+    let words = "solve formula 1";
+    let open = (
+        Status::OpenFault(Which::Formula),
+        "carafe: OpenFault formula\n",
+    );
+    let read = (
+        Status::ReadFault(Which::Formula),
+        "carafe: ReadFault formula\n",
+    );
+    let rows = [
+        ("solve absent 1", NONE, open),
+        (words, at_shelf(&[0]), open),
+        (words, at_shelf(&[1]), read),
+        (words, at_shelf(&[2]), read),
+    ];
+    for (words, faults, (status, line)) in rows {
+        let ending = call_search(rt.alloc(), words, "p cnf 1 1 1 0\n", &faults)?;
+        assert_eq!(rt; ending.status, status, "{words}");
+        assert_eq!(rt; ending.status.exit_number(), 4, "{words}");
+        assert_eq!(rt; ending.diag.bytes(), line.as_bytes(), "{words}");
+        assert_eq!(rt; ending.out.bytes().len(), 0, "{words}");
     }
     Ok(())
 }

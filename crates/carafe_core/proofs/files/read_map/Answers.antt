@@ -1,4 +1,4 @@
-use Rattle.carafe_core.specs.Settings.{settings_of}
+use Rattle.carafe_core.specs.Settings.{bridges_settings}
 use Rattle.carafe_core.specs.Answers.{shown}
 use Rattle.carafe_core.proofs.CauseFacts.{map_failure, map_by_bytes}
 use Rattle.carafe_core.proofs.files.read_map.Goals as goal
@@ -7,6 +7,6 @@ pub returns-clause-failure : goal.returns-clause-failure
 returns-clause-failure g c =
     let files = g.H.Shelf.files c.args.shelf.now in
     let shelf = shown files (g.H.Shelf.start_faults c.args.shelf.now) (g.H.Shelf.start_faults c.read_file.new.shelf) (g.H.Shelf.read_faults c.args.shelf.now) (g.H.Shelf.read_faults c.read_file.new.shelf) in
-    map_failure shelf (settings_of c.args.settings.now) c.in_ok-bytes.bytes.items c.in-Err.refusal c.map_refused.result c.map_refused.ensures
+    map_failure shelf (bridges_settings c.args.settings.now) c.in_ok-bytes.bytes.items c.in-Err.refusal c.map_refused.result c.map_refused.ensures
     (record { map_is = c.in_ok-bytes.ensures.file; short = c.in_ok-bytes.ensures.short })
     (map_by_bytes c.as_slice.ensures.value c.in-Err.ensures.refused)

@@ -1,4 +1,4 @@
-use Rattle.carafe_core.proofs.Exactness.{one_cause, no_cause}
+use Rattle.carafe_core.proofs.Exactness.{one_cause, no_cause, no_solve_cause}
 use Rattle.carafe_core.proofs.OneReport.{one_report}
 use Rattle.carafe_core.proofs.laws.one_answer.Goals as goal
 
@@ -10,3 +10,6 @@ returns-clause-refusal c = one_cause
 
 pub returns-clause-not_both : goal.returns-clause-not_both
 returns-clause-not_both c = no_cause
+
+pub returns-clause-not_both_solved : goal.returns-clause-not_both_solved
+returns-clause-not_both_solved c = no_solve_cause

@@ -2,7 +2,7 @@ use Rattle.std.proofs.Common.{◌≡◌, ◌∙◌, sym, ap, arith, Ok}
 use Rattle.std.specs.Fmt.{decimal}
 use Rattle.std.proofs.lemmas.Fmt.{parse-decimal}
 use Rattle.carafe_core.proofs.WordLemmas.{parsed_is, other_words}
-use Rattle.carafe_core.proofs.sides.read_number.Goals as goal
+use Rattle.carafe_core.proofs.numbers.read_number.Goals as goal
 
 -- a number that is spelled would have been parsed, and printed again as it stood
 pub returns-in_err-number-clause-none : goal.returns-in_err-number-clause-none

@@ -43,7 +43,7 @@ few_filled lines = count_by-le-length (λ line. nat_lt 0 (length line.0)) lines
 empty_more : (lines : List (List ℤ × List ℕ)) (hints : List ℕ) → filled_lines (lines ++ ([], hints) ∷ []) ≡ filled_lines lines
 empty_more lines hints = ap (λ ls. filled_lines ls) (sym (take_all (length lines + 1) (lines ++ ([], hints) ∷ []) (omega (arith, length_push lines ([], hints)))))
     ∙ count_by_more_no (λ (line : List ℤ × List ℕ). nat_lt 0 (length line.0)) (lines ++ ([], hints) ∷ []) (length lines) ([], hints) (omega (arith, length_push lines ([], hints)))
-      (ap (λ (line : List ℤ × List ℕ). nat_lt 0 (length line.0)) (get_or_push lines ([], hints) ([], hints) (length lines) refl))
+    (ap (λ (line : List ℤ × List ℕ). nat_lt 0 (length line.0)) (get_or_push lines ([], hints) ([], hints) (length lines) refl))
     ∙ ap (λ ls. filled_lines ls) (take-append-le (length lines) lines (([], hints) ∷ []) (omega arith) ∙ take_all (length lines) lines (omega arith))
 
 empty_plain : (vars : ℕ) → IsPlain vars []

@@ -206,10 +206,12 @@ module _ (s : Search) (clause : List ℤ) (level : ℕ) (t : IsSearch s) (l : Is
     second = subst (Contains clause) (sym is) (Contains-get_or clause 1 (pos 0) two);
     differ = λ same. let places : 0 ≡ 1 = l.once.once 0 1 a.some two (same ∙ is) in let no' : ⊥ = omega (arith, places) in absurd no';
     first_backed = record { backed = λ passed. absurd (first_out (in_taken (front s level ++ lit ∷ []) head (neg_ℤ lit) passed)) };
-    second_backed = record { backed = λ passed k on. elim (cases_lt k level) [
-      | inl less ↦ no_both (subst (λ ls. is_in ls (neg_ℤ b) ≡ true) (low_front k less) on) (subst (λ z. is_in (front s k) (neg_ℤ z) ≡ false) (sym is) (j.second two k less))
-      | inr more ↦ subst (λ ls. is_in ls lit ≡ true) (sym (high_front k more)) (own (front s level) lit)
-    ] };
+    second_backed = record {
+      backed = λ passed k on. elim (cases_lt k level) [
+        | inl less ↦ no_both (subst (λ ls. is_in ls (neg_ℤ b) ≡ true) (low_front k less) on) (subst (λ z. is_in (front s k) (neg_ℤ z) ≡ false) (sym is) (j.second two k less))
+        | inr more ↦ subst (λ ls. is_in ls lit ≡ true) (sym (high_front k more)) (own (front s level) lit)
+      ];
+    };
   }
 
   -- a clause of one literal jumps to level 0

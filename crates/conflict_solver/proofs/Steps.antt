@@ -151,8 +151,16 @@ begun formula left said s w conflict giving = record {
 -- ---- the bounds of a search
 
 pub few_said : (formula : Clauses) (budget left : ℕ) (said : List Said) (s : Search) → IsFormula formula.vars formula.clauses → budget < 2 ^ 32 → IsUnderWay formula budget left said s → length said < 2 ^ 61
-few_said formula budget left said s f small run = omega (arith, f.few_clauses, small, run.count, ap (λ ls. length ls) run.whole, length-append (given_lines formula.clauses) (derived_lines run.lines),
-    length-map formula.clauses (λ (c : List ℤ). Axiom c), length-map run.lines (λ (line : List ℤ × List ℕ). Derived line.0 line.1))
+few_said formula budget left said s f small run = omega (
+  arith,
+  f.few_clauses,
+  small,
+  run.count,
+  ap (λ ls. length ls) run.whole,
+  length-append (given_lines formula.clauses) (derived_lines run.lines),
+  length-map formula.clauses (λ (c : List ℤ). Axiom c),
+  length-map run.lines (λ (line : List ℤ × List ℕ). Derived line.0 line.1),
+)
 
 never_exhausted : (formula : Clauses) (budget : ℕ) (lines : List (List ℤ × List ℕ)) → AreDerived formula budget lines → AreExhausted formula budget lines → 3 ^ formula.vars ≤ budget → ⊥
 never_exhausted formula budget lines derived spent large = let no' : ⊥ = omega (arith, large, spent.count, few_lines formula.vars formula.clauses lines spent.new spent.filled derived.plain) in no'

@@ -257,12 +257,7 @@ fn derive<P: ProofSink>(
 }
 
 /// Takes up the clause that was learnt, and goes back to where it makes a literal true, or begins anew.
-fn go_on(
-    solver: &mut Solver,
-    lits: &[Lit],
-    hints: &[u64],
-    level: usize,
-) -> Result<(), AllocError>
+fn go_on(solver: &mut Solver, lits: &[Lit], hints: &[u64], level: usize) -> Result<(), AllocError>
     requires above { 0 < length solver.old.trail.starts }
     requires left { 0 < solver.old.left }
     requires kept { AreKept solver.old.trail solver.old.watches }

@@ -7,10 +7,10 @@ use clause_base::Lit;
 use std::alloc::{AllocError, Global};
 
 /// Above this step all scores are made smaller.
-const HIGHEST_STEP: u64 = 1 << 48;
+const HIGHEST_STEP: u64 = 1 << 40;
 
 /// By how many bits they are made smaller then.
-const STEP_BITS: u32 = 40;
+const STEP_BITS: u32 = 24;
 
 /// The variables that may be unset, in a heap by their scores, and the last value of each.
 #[derive(Debug, Drop)]
@@ -20,11 +20,8 @@ pub(crate) struct Order {
     /// For each variable its index in the heap, if it is there.
     indices: Vec<Option<usize>>,
     scores: Vec<u64>,
-    /// What a conflict adds to a score.
+    /// What is added to a score for each place where the variable stands in a clause of the conflict.
     step: u64,
-    /// The conflict in which a score was raised last.
-    raised: Vec<u64>,
-    conflicts: u64,
     /// Whether the variable was true when it was set last.
     was_true: Vec<bool>,
 }
@@ -37,9 +34,7 @@ impl Order {
             heap: Vec::new(alloc),
             indices: vec![in alloc; None; count]?,
             scores: vec![in alloc; 0; count]?,
-            step: 1 << 8,
-            raised: vec![in alloc; 0; count]?,
-            conflicts: 0,
+            step: 1 << 16,
             was_true: vec![in alloc; false; count]?,
         };
         for variable in 1..=vars {
@@ -79,8 +74,7 @@ impl Order {
 
     /// Begins the scores of one more conflict: those of earlier ones count less.
     pub(crate) fn begin_conflict(&mut self) {
-        self.conflicts = self.conflicts.saturating_add(1);
-        self.step = self.step.saturating_add(self.step >> 4);
+        self.step = self.step.saturating_add(self.step / 49);
         if self.step > HIGHEST_STEP {
             self.step >>= STEP_BITS;
             for score in &mut self.scores {
@@ -89,7 +83,7 @@ impl Order {
         }
     }
 
-    /// Raises the scores of the clause's variables, once in a conflict.
+    /// Raises the scores of the clause's variables.
     pub(crate) fn raise(&mut self, clause: &[Lit]) {
         for lit in clause {
             self.raise_variable(lit.variable());
@@ -98,13 +92,6 @@ impl Order {
 
     fn raise_variable(&mut self, variable: u32) {
         let place = variable as usize;
-        let Some(raised) = self.raised.get_mut(place) else {
-            return;
-        };
-        if *raised == self.conflicts {
-            return;
-        }
-        *raised = self.conflicts;
         let Some(score) = self.scores.get_mut(place) else {
             return;
         };

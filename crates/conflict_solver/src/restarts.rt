@@ -1,7 +1,7 @@
 //! When a search begins anew from its first level. No contract speaks of it.
 
 /// The least number of conflicts between two restarts.
-const SHORTEST: u64 = 64;
+const SHORTEST: u64 = 512;
 
 /// Counts conflicts. Between restarts there are 1, 1, 2, 1, 1, 2, 4, .. times the least number: each power of two comes
 /// once both halves of the list before it were gone through.

@@ -1,6 +1,6 @@
 -- Cells of the plane. A cell (x, y) is the unit square whose lower left corner is the point (x, y).
 -- A set of cells is a test on cells, ℤ → ℤ → Bool.
-use Rattle.std.specs.Prelude.{◌≡◌, ◌≤ℤ◌, ℕ, zero, suc, ◌+◌, ◌^◌, ℤ, pos, neg_ℤ, ◌+ℤ◌, Bool, not, ◌&&◌, int_lt, List, [], ◌∷◌, sum_by, count_by}
+use Rattle.std.specs.Prelude.{ℕ, zero, suc, ◌+◌, ◌^◌, ℤ, pos, neg_ℤ, ◌+ℤ◌, Bool, not, ◌&&◌, int_lt, List, [], ◌∷◌, sum_by, count_by}
 use Rattle.std.specs.List.{list_any}
 use Rattle.plane_geom.specs.declared.shapes.Rect.{Rect}
 
@@ -39,8 +39,3 @@ is_met_on_line side test x = list_any test (numbers x side)
 
 unfoldable pub count_numbers : (ℤ → Bool) → ℕ
 count_numbers test = count_by test (numbers (neg_ℤ (pos (2 ^ 25))) (2 ^ 26 + 1))
-
--- So many numbers z have low <= z < high.
-pub record IsSpan (low high : ℤ) (n : ℕ) : Type 0 where
-  pub some : low ≤ℤ high → low +ℤ pos n ≡ high
-  pub none : high ≤ℤ low → n ≡ 0

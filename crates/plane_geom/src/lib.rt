@@ -4,20 +4,18 @@
 //! square whose lower left corner is the point (x, y), and a set of cells is a test on cells.
 //!
 //! The crate promises that a composed place moves every point as its parts do one after the other, that a place
-//! refuses exactly the points that it would move out of the layout's range, that the reach of a shape is the least
-//! rectangle round it, and that the placements of a square on two rectangles are counted exactly.
+//! refuses exactly the points that it would move out of the layout's range, and that the reach of a shape is the least
+//! rectangle round it.
 //!
 //! All of the geometry stands on it: the reader of layouts, the cutting of shapes, regions, nets and defects cite
-//! its definitions, which are in `specs/`: `Bounds`, `Cells`, `Placement`, `Covering` and `Names`.
+//! its definitions, which are in `specs/`: `Bounds`, `Cells`, `Ends`, `Placement`, `Covering` and `Names`.
 #![tactic(auto)]
 
 mod names;
-mod pairs;
 mod places;
 mod shapes;
 
 pub use names::{Label, Short};
-pub use pairs::placements_on_both;
 pub use places::{Place, Turn, one_place};
 pub use shapes::{Point, Rect, Shape};
 

@@ -3,7 +3,7 @@ ghost use Rattle.std.specs.List.{All};
 ghost use Rattle.plane_geom.specs.Bounds.{IsPointWithin};
 ghost use Rattle.plane_geom.specs.Covering.{polygon, wire, IsWellFormed};
 
-use crate::{Label, Place, Point, Rect, Shape, Short, Turn, placements_on_both};
+use crate::{Label, Place, Point, Rect, Shape, Short, Turn};
 use std::alloc::{AllocError, Global};
 use std::test::Fail;
 
@@ -117,22 +117,4 @@ fn reaches_round_all_points(rt: HostRuntime) -> Result<(), Fail> {
     assert!(rt; wire.reach() == wide);
     assert!(rt; Shape::Block(wide).reach() == wide);
     Ok(())
-}
-
-#[test]
-fn counts_placements_on_two_boxes(rt: HostRuntime) {
-    let at = |x0, y0, x1, y1| Rect { x0, y0, x1, y1 };
-    let rows = [
-        (6, at(0, 0, 20, 20), at(24, 0, 44, 20), 25),
-        (4, at(0, 0, 20, 20), at(24, 0, 44, 20), 0),
-        (2, at(0, 0, 20, 20), at(20, 20, 40, 40), 1),
-        (14, at(0, 0, 4, 20), at(8, 0, 12, 20), 297),
-        (14, at(0, 0, 4, 20), at(16, 0, 20, 20), 33),
-        (14, at(0, 0, 0, 20), at(16, 0, 20, 20), 0),
-        (65_536, at(0, 0, 1, 1), at(0, 0, 1, 1), 4_294_967_296),
-    ];
-    for (side, a, b, count) in rows {
-        assert_eq!(rt; placements_on_both(side, &a, &b), count, "side {side}");
-        assert_eq!(rt; placements_on_both(side, &b, &a), count, "side {side}");
-    }
 }

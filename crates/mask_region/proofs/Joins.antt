@@ -1,5 +1,5 @@
 -- Two banded lists, joined band by band.
-use Rattle.std.proofs.Common.{◌≡◌, ℕ, ◌+◌, ◌≤◌, ◌^◌, Bool, true, false, ◌&&◌, ◌||◌, List, [], length, take, drop, refl, sym, ap, ◌∙◌, subst, ◌⊎◌, inl, inr, arith}
+use Rattle.std.proofs.Common.{◌≡◌, ℕ, ◌+◌, ◌≤◌, ◌^◌, Bool, true, false, ◌&&◌, ◌||◌, List, [], length, take, drop, refl, sym, ap, ◌∙◌, subst, arith}
 use Rattle.std.specs.Prelude.{ℤ, pos, neg_ℤ, ◌+ℤ◌, ◌-ℤ◌, ◌≤ℤ◌, ◌<ℤ◌}
 use Rattle.std.specs.List.{AllByRecursion}
 use Rattle.std.proofs.lemmas.Int.{ints, by_lt_z}
@@ -15,7 +15,7 @@ use Rattle.mask_region.specs.declared.ends.Joining.TheVariants.{Union, Meet, Min
 use Rattle.mask_region.specs.Joins.{joined}
 use Rattle.mask_region.specs.Rows.{IsRow}
 use Rattle.mask_region.specs.Strips.{is_in_strip, is_in, IsStrip, Banded}
-use Rattle.mask_region.specs.Sweeping.{ArePassed, IsFree, IsEdge, IsRowOf, IsSteady, row_before, IsSplitAt, is_shown, IsShown}
+use Rattle.mask_region.specs.Sweeping.{ArePassed, IsFree, IsEdge, IsRowOf, IsSteady, IsSplitAt, is_shown, IsShown}
 use Rattle.mask_region.proofs.Banding.{all_as, all_with, all_strips, none_above, passed_none, passed_further}
 
 -- The rows at y are those of the two sets, and below y the strips and the held band are the joined set.
@@ -62,10 +62,10 @@ start_row strips y h low =
           (λ s st f. f.ahead (omega (arith, ints, st.below))) (all_strips strips h.each) free);
     }
 
-pub join_start : (op : Joining) (a b : List Strip) (y : ℤ) (row_a row_b : List ℤ) (out : List Strip) (held : List ℤ) → Banded a → Banded b → y ≡ neg_ℤ (pos (2 ^ 25 + 1))
-    → row_a ≡ [] → row_b ≡ [] → out ≡ [] → held ≡ [] → AreJoinedTo op a b 0 0 y row_a row_b out held y
-join_start op a b y row_a row_b out held banded_a banded_b low no_a no_b no_out no_held =
-    rw (no_a, no_b, no_out, no_held)
+pub join_start : (op : Joining) (a b : List Strip) (i j : ℕ) (y : ℤ) (row_a row_b : List ℤ) (out : List Strip) (held : List ℤ) → Banded a → Banded b → i ≡ 0 → j ≡ 0 → y ≡ neg_ℤ (pos (2 ^ 25 + 1))
+    → row_a ≡ [] → row_b ≡ [] → out ≡ [] → held ≡ [] → AreJoinedTo op a b i j y row_a row_b out held y
+join_start op a b i j y row_a row_b out held banded_a banded_b no_i no_j low no_a no_b no_out no_held =
+    rw (no_i, no_j, no_a, no_b, no_out, no_held)
     (record {
       a_banded = banded_a;
       b_banded = banded_b;
@@ -153,18 +153,11 @@ shown_to out held from y next h up = record { banded = h.banded; passed = h.pass
 
 -- ---- a joined row that stays
 
-pub stays_by_first : (op : Joining) (on p p2 q : Bool) → ((s t : Bool) → joined op s on ≡ joined op t on) → (p ≡ p2) ⊎ (q ≡ on) → joined op p q ≡ joined op p2 q
-stays_by_first op on p p2 q settles h = elim h [ inl same ↦ ap (λ r. joined op r q) same | inr settled ↦ rw settled (settles p p2) ]
-
-pub stays_by_second : (op : Joining) (on p q q2 : Bool) → ((s t : Bool) → joined op on s ≡ joined op on t) → (q ≡ q2) ⊎ (p ≡ on) → joined op p q ≡ joined op p q2
-stays_by_second op on p q q2 settles h = elim h [ inl same ↦ ap (λ r. joined op p r) same | inr settled ↦ rw settled (settles q q2) ]
-
-pub still_joined : (op : Joining) (is_new_a : Bool) (old_a row_a below_a : List ℤ) (is_new_b : Bool) (old_b row_b below_b : List ℤ) (held : List ℤ) (x : ℤ)
-    → row_before is_new_a old_a row_a ≡ below_a → row_before is_new_b old_b row_b ≡ below_b
-    → joined op (flips (row_before is_new_a old_a row_a) x) (flips (row_before is_new_b old_b row_b) x) ≡ joined op (flips row_a x) (flips row_b x)
+-- Where the rows below are the same and what is joined of them is what is joined of the rows, the held band has the joined row.
+pub still_joined : (op : Joining) (old_a below_a row_a old_b below_b row_b held : List ℤ) (x : ℤ) → old_a ≡ below_a → old_b ≡ below_b
+    → joined op (flips old_a x) (flips old_b x) ≡ joined op (flips row_a x) (flips row_b x)
     → flips held x ≡ joined op (flips below_a x) (flips below_b x) → flips held x ≡ joined op (flips row_a x) (flips row_b x)
-still_joined op is_new_a old_a row_a below_a is_new_b old_b row_b below_b held x same_a same_b stays now =
-    now ∙ (λ k. joined op (flips (sym same_a k) x) (flips (sym same_b k) x)) ∙ stays
+still_joined op old_a below_a row_a old_b below_b row_b held x same_a same_b stays now = now ∙ (λ k. joined op (flips (sym same_a k) x) (flips (sym same_b k) x)) ∙ stays
 
 pub join_more : (op : Joining) (a b : List Strip) (i j : ℕ) (y : ℤ) (row_a row_b : List ℤ) (out : List Strip) (held : List ℤ) (from next : ℤ) (row_a2 row_b2 : List ℤ) (out2 : List Strip) (held2 : List ℤ) (from2 : ℤ) (i2 j2 : ℕ)
     → AreJoinedTo op a b i j y row_a row_b out held from → IsEdge (drop i a) y next → IsEdge (drop j b) y next → IsSplitAt a next i2 → IsSplitAt b next j2

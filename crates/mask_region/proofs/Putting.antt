@@ -1,11 +1,11 @@
 -- Bands that are put behind others.
-use Rattle.std.proofs.Common.{◌≡◌, ℕ, zero, suc, ◌+◌, ◌<◌, ◌≤◌, ◌^◌, Bool, true, false, not, ◌&&◌, ◌||◌, List, [], ◌∷◌, ◌++◌, length, take, refl, sym, ap, ◌∙◌, subst, inl, inr, arith, add-one}
+use Rattle.std.proofs.Common.{◌≡◌, ℕ, ◌+◌, ◌<◌, ◌≤◌, ◌^◌, Bool, true, false, not, ◌&&◌, ◌||◌, List, [], ◌∷◌, ◌++◌, length, take, refl, sym, ap, ◌∙◌, subst, inl, inr, arith}
 use Rattle.std.specs.Prelude.{ℤ, pos, neg_ℤ, ◌≤ℤ◌, ◌<ℤ◌}
 use Rattle.std.specs.List.{All, AllByRecursion}
 use Rattle.std.proofs.lemmas.Bool.{cases_lt, false≢true}
 use Rattle.std.proofs.lemmas.Int.{ints, by_lt_z}
 use Rattle.std.proofs.lemmas.List.{take_more, take_all, length-take-le}
-use Rattle.std.proofs.lemmas.List.Elements.{All-nil, All-more, All-weaker, All-get_or}
+use Rattle.std.proofs.lemmas.List.Elements.{All-weaker, All-get_or}
 use Rattle.std.proofs.lemmas.List.Folds.{list_any-append}
 use Rattle.plane_geom.specs.Bounds.{IsWithin}
 use Rattle.plane_geom.specs.Cells.{is_between}
@@ -15,6 +15,7 @@ use Rattle.mask_region.specs.declared.strips.Strip.{Strip}
 use Rattle.mask_region.specs.Rows.{end_at, IsRising, IsRow}
 use Rattle.mask_region.specs.Strips.{is_in_strip, is_in, IsStrip, Follows, IsBanded, Banded}
 use Rattle.mask_region.specs.Sweeping.{ArePassed}
+use Rattle.mask_region.proofs.Rows.{rising_before}
 use Rattle.mask_region.proofs.Banding.{all_as, all_with, all_push, all_strips, banded-push}
 
 -- The strip ends below the band, or it is one of the band, and the ends from index k on are behind it.
@@ -30,16 +31,6 @@ pub record ArePut (old : List Strip) (row : List ℤ) (k : ℕ) (y0 y1 : ℤ) (o
   pub banded : IsBanded out
   pub before : AllByRecursion (IsBefore y0 y1 row k) out
   pub cells : (x z : ℤ) → is_in out x z ≡ (is_in old x z || (flips (take k row) x && is_between y0 y1 z))
-
--- All ends before another lie left of it.
-pub rising_before : (row : List ℤ) (k : ℕ) → IsRising row → k < length row → All (λ e. e <ℤ end_at row k) (take k row)
-rising_before row zero rising h = All-nil (λ e. e <ℤ end_at row 0)
-rising_before row (suc k) rising h =
-    let next : k + 1 < length row = omega arith in
-    let up : end_at row k <ℤ end_at row (k + 1) = rising.each k next in
-    let before : All (λ e. e <ℤ end_at row (k + 1)) (take k row) = All-weaker (λ e. e <ℤ end_at row k) (λ e. e <ℤ end_at row (k + 1)) (λ e lt. omega (arith, ints)) (take k row) (rising_before row k rising (omega arith)) in
-    let P : ℕ → Type 0 = λ n. All (λ e. e <ℤ end_at row n) (take n row) in
-    subst P (add-one k) (All-more (λ e. e <ℤ end_at row (k + 1)) row k (pos 0) (omega arith) before up)
 
 before_old : (y0 y1 : ℤ) (row : List ℤ) (s : Strip) → s.y1 ≤ℤ y0 → IsBefore y0 y1 row 0 s
 before_old y0 y1 row s h = record { below = λ up. absurd (omega (arith, ints)); above = λ up. absurd (omega (arith, ints)); right = λ up k. absurd (omega (arith, ints)) }

@@ -12,7 +12,7 @@ use Rattle.plane_geom.specs.Ends.{is_odd, flips}
 use Rattle.plane_geom.proofs.Ends.{odd_more, flips-push, flips-push_behind, flips-up_to, up_further}
 use Rattle.mask_region.specs.Joins.{joined}
 use Rattle.mask_region.specs.declared.ends.Joining.{Joining}
-use Rattle.mask_region.specs.Rows.{end_at, IsRising, IsRow, IsNextEnd, Turns, IsPast, IsTurned, IsBelowFrom, IsSkipped, IsCommon, IsSameEnd}
+use Rattle.mask_region.specs.Rows.{end_at, IsRising, IsRow, IsNextEnd, Turns, IsPast, IsTurned, IsSkipped, IsCommon, IsSameEnd}
 
 -- ---- one more end
 
@@ -306,7 +306,8 @@ common_more a b k h one =
       same = take_more a k (pos 0) one.in_a ∙ (λ i. h.same i ++ one.same i ∷ []) ∙ sym (take_more b k (pos 0) one.in_b);
     }
 
-rising_before : (ends : List ℤ) (k : ℕ) → IsRising ends → k < length ends → All (λ t. t <ℤ end_at ends k) (take k ends)
+-- All ends before another lie left of it.
+pub rising_before : (ends : List ℤ) (k : ℕ) → IsRising ends → k < length ends → All (λ t. t <ℤ end_at ends k) (take k ends)
 rising_before ends k rising lt =
     All-weaker (λ t. t ≤ℤ (end_at ends k -ℤ pos 1)) (λ t. t <ℤ end_at ends k) (λ t le. omega (arith, ints)) (take k ends)
     (up_to_last ends k (end_at ends k -ℤ pos 1) rising (omega (arith, lt))

@@ -1,8 +1,9 @@
 -- The sweep over the strips of a region, row by row.
-use Rattle.std.specs.Prelude.{◌≡◌, ℕ, ◌<◌, ◌≤◌, ◌^◌, ℤ, pos, ◌≤ℤ◌, ◌<ℤ◌, neg_ℤ, Bool, true, false, not, int_lt, ◌&&◌, ◌||◌, List, take, drop, length}
+use Rattle.std.specs.Prelude.{◌≡◌, ℕ, ◌<◌, ◌≤◌, ◌^◌, ℤ, pos, ◌≤ℤ◌, ◌<ℤ◌, neg_ℤ, Bool, true, cond, not, int_lt, ◌&&◌, ◌||◌, List, take, drop, length}
 use Rattle.std.specs.List.{AllByRecursion}
 use Rattle.plane_geom.specs.Cells.{is_between}
 use Rattle.plane_geom.specs.Ends.{flips}
+use Rattle.mask_region.specs.declared.bands.Sweep.{Sweep}
 use Rattle.mask_region.specs.declared.strips.Strip.{Strip}
 use Rattle.mask_region.specs.Rows.{IsRow}
 use Rattle.mask_region.specs.Strips.{is_in, Banded}
@@ -35,15 +36,14 @@ pub record IsRowOf (strips : List Strip) (y : ℤ) (ends : List ℤ) : Type 0 wh
 pub record IsSteady (strips : List Strip) (y : ℤ) : Type 0 where
   pub each : AllByRecursion (λ s. s.y0 ≡ y → ⊥) strips
 
--- the ends of the row below: those of the old row, where the row is new
-abbrev pub row_before : Bool → List ℤ → List ℤ → List ℤ
-row_before true old row = old
-row_before false old row = row
+-- the ends of the row below: those that were kept, where the row was read anew
+abbrev pub row_below : Sweep → List ℤ
+row_below sweep = cond sweep.is_new sweep.below.items sweep.row.items
 
--- With the old row, where the row is new, the ends are those of the row below.
-pub record IsRowBefore (is_new : Bool) (old row below : List ℤ) : Type 0 where
-  pub is_row : is_new ≡ true → IsRow old
-  pub is_before : row_before is_new old row ≡ below
+-- These are the ends of the row below.
+pub record IsRowBelow (sweep : Sweep) (ends : List ℤ) : Type 0 where
+  pub kept : sweep.is_new ≡ true → IsRow sweep.below.items
+  pub same : row_below sweep ≡ ends
 
 -- The strips up to index r end below the row y, and the others reach above it.
 pub record IsSplitAt (strips : List Strip) (y : ℤ) (r : ℕ) : Type 0 where

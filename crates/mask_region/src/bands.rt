@@ -1,10 +1,10 @@
-ghost use Rattle.std.specs.Prelude.{◌≡◌, ◌^◌, ◌<◌, ◌≤◌, ℤ, true, pos, neg_ℤ, ◌≤ℤ◌, ◌<ℤ◌, ◌||◌, ◌&&◌, length, take, drop, OnOk, IfOk, IfSome};
+ghost use Rattle.std.specs.Prelude.{◌≡◌, ◌^◌, ◌<◌, ◌≤◌, ℤ, [], true, pos, neg_ℤ, ◌≤ℤ◌, ◌<ℤ◌, ◌||◌, ◌&&◌, length, take, drop, OnOk, IfOk, IfSome};
 ghost use Rattle.plane_geom.specs.Cells.{is_between};
 ghost use Rattle.plane_geom.specs.Ends.{flips};
 ghost use Rattle.mask_region.specs.Joins.{joined};
 ghost use Rattle.mask_region.specs.Rows.{IsRow};
 ghost use Rattle.mask_region.specs.Strips.{is_in, Banded};
-ghost use Rattle.mask_region.specs.Sweeping.{AreAhead, ArePassed, IsEdge, IsRowOf, IsSteady, row_before, IsRowBefore, IsSplitAt, IsShown, is_shown};
+ghost use Rattle.mask_region.specs.Sweeping.{AreAhead, ArePassed, IsEdge, IsRowOf, IsSteady, row_below, IsRowBelow, IsSplitAt, IsShown, is_shown};
 
 use crate::ends::{Joining, are_alike_but, join_rows};
 use crate::strips::Strip;
@@ -28,35 +28,21 @@ pub(crate) fn join(
     ensures banded { IfOk result (λ v. Banded v.items) }
     ensures cells { IfOk result (λ v. (x y : ℤ) → is_in v.items x y ≡ joined op (is_in a.now x y) (is_in b.now x y)) }
 {
-    let mut out = Vec::new(alloc);
-    let mut held = Vec::new(alloc);
-    let mut row_a = Vec::new(alloc);
-    let mut row_b = Vec::new(alloc);
-    let mut old_a = Vec::new(alloc);
-    let mut old_b = Vec::new(alloc);
+    let mut first = Sweep::new(alloc);
+    let mut second = Sweep::new(alloc);
     let mut row = Vec::new(alloc);
-    let mut i = 0;
-    let mut j = 0;
+    let mut held = Vec::new(alloc);
+    let mut out = Vec::new(alloc);
     let mut from = BELOW;
     let mut y = BELOW;
-    while let Some(next) = next_edges(a, i, b, j, y) {
-        let step_a = advance(a, i, next, &mut row_a, &mut old_a)?;
-        let step_b = advance(b, j, next, &mut row_b, &mut old_b)?;
-        i = step_a.index;
-        j = step_b.index;
+    while let Some(next) = next_edges(a, first.index, b, second.index, y) {
+        first.advance(a, next)?;
+        second.advance(b, next)?;
         y = next;
-        if stays(
-            op,
-            step_a.is_new,
-            old_a.as_slice(),
-            row_a.as_slice(),
-            step_b.is_new,
-            old_b.as_slice(),
-            row_b.as_slice(),
-        ) {
+        if stays(op, &first, &second) {
             continue;
         }
-        join_rows(op, row_a.as_slice(), row_b.as_slice(), &mut row)?;
+        join_rows(op, first.row.as_slice(), second.row.as_slice(), &mut row)?;
         from = hold(&mut out, &mut held, from, y, &mut row)?;
     }
     put_row(&mut out, held.as_slice(), from, y)?;
@@ -112,68 +98,86 @@ fn pass(strips: &[Strip], i: usize, y: i32) -> usize
     strips.len()
 }
 
-/// A step up to a row: the index of the first strip that reaches above it, and whether its ends are new, and were
-/// written.
-#[derive(Clone, Copy, Debug, PartialEq, Eq)]
-struct Step {
+/// A sweep over the strips of a set, from row to row.
+#[derive(Debug, Drop)]
+struct Sweep {
+    /// The index of the first strip that reaches above the row.
     index: usize,
+    /// The ends of the row.
+    row: Vec<i32>,
+    /// Whether the row was read anew, since a strip begins or ends there.
     is_new: bool,
+    /// The ends of the row below, where the row was read anew.
+    below: Vec<i32>,
 }
 
-/// Goes on to the row `y`, where `row` has the ends of the row below. Where a strip begins or ends there, the ends of the
-/// row are written, and `old` gets those of the row below.
-fn advance(
-    strips: &[Strip],
-    i: usize,
-    y: i32,
-    row: &mut Vec<i32>,
-    old: &mut Vec<i32>,
-) -> Result<Step, AllocError>
-    requires in_range { i ≤ length strips.now }
-    requires banded { Banded strips.now }
-    requires passed { ArePassed (take i strips.now) y }
-    requires row { IsRow row.old.items }
-    requires steady { IsSteady (drop i strips.now) y → IsRowOf (drop i strips.now) y row.old.items }
-    ensures split { IfOk result (λ r. IsSplitAt strips.now y r.index) }
-    ensures row { IfOk result (λ r. IsRowOf (drop r.index strips.now) y row.new.items) }
-    ensures before { IfOk result (λ r. IsRowBefore r.is_new old.new.items row.new.items row.old.items) }
-{
-    let index = pass(strips, i, y);
-    if is_steady(strips, i, index, y) {
-        let is_new = false;
-        return Ok(Step { index, is_new });
+impl Sweep {
+    /// A sweep that is at a row below all strips.
+    fn new(alloc: Global) -> Sweep
+        ensures index { result.index ≡ 0 }
+        ensures row { result.row.items ≡ [] }
+    {
+        Sweep {
+            index: 0,
+            row: Vec::new(alloc),
+            is_new: false,
+            below: Vec::new(alloc),
+        }
     }
-    read_row(strips, index, y, old)?;
-    mem::swap(row, old);
-    let is_new = true;
-    Ok(Step { index, is_new })
+
+    /// Goes on to the row `y`, which is read anew where a strip begins or ends there.
+    fn advance(&mut self, strips: &[Strip], y: i32) -> Result<(), AllocError>
+        requires in_range { self.old.index ≤ length strips.now }
+        requires banded { Banded strips.now }
+        requires passed { ArePassed (take self.old.index strips.now) y }
+        requires row { IsRow self.old.row.items }
+        requires steady { IsSteady (drop self.old.index strips.now) y → IsRowOf (drop self.old.index strips.now) y self.old.row.items }
+        ensures split { OnOk result (IsSplitAt strips.now y self.new.index) }
+        ensures row { OnOk result (IsRowOf (drop self.new.index strips.now) y self.new.row.items) }
+        ensures below { OnOk result (IsRowBelow self.new self.old.row.items) }
+    {
+        let index = pass(strips, self.index, y);
+        let is_steady = is_steady(strips, self.index, index, y);
+        self.index = index;
+        self.is_new = !is_steady;
+        if is_steady {
+            return Ok(());
+        }
+        read_row(strips, index, y, &mut self.below)?;
+        mem::swap(&mut self.row, &mut self.below);
+        Ok(())
+    }
 }
 
-/// Whether the joined row is known to be that of the row below, where each of the two rows is new and comes after an old
-/// one, or is that of the row below.
-fn stays(
-    op: Joining,
-    is_new_a: bool,
-    old_a: &[i32],
-    row_a: &[i32],
-    is_new_b: bool,
-    old_b: &[i32],
-    row_b: &[i32],
-) -> bool
-    requires row_a { IsRow row_a.now }
-    requires row_b { IsRow row_b.now }
-    requires old_a { is_new_a ≡ true → IsRow old_a.now }
-    requires old_b { is_new_b ≡ true → IsRow old_b.now }
-    ensures { result ≡ true → (x : ℤ) → joined op (flips (row_before is_new_a old_a.now row_a.now) x) (flips (row_before is_new_b old_b.now row_b.now) x) ≡ joined op (flips row_a.now x) (flips row_b.now x) }
+/// Whether the joined row is known to be that of the row below: neither row is new, or one is new and the other settles
+/// what is joined wherever the new row differs from the one below.
+fn stays(op: Joining, a: &Sweep, b: &Sweep) -> bool
+    requires row_a { IsRow a.now.row.items }
+    requires row_b { IsRow b.now.row.items }
+    requires below_a { a.now.is_new ≡ true → IsRow a.now.below.items }
+    requires below_b { b.now.is_new ≡ true → IsRow b.now.below.items }
+    ensures { result ≡ true → (x : ℤ) → joined op (flips (row_below a.now) x) (flips (row_below b.now) x) ≡ joined op (flips a.now.row.items x) (flips b.now.row.items x) }
 {
-    if is_new_a {
-        if is_new_b {
+    if a.is_new {
+        if b.is_new {
             return false;
         }
-        return are_alike_but(old_a, row_a, row_b, op.settling_second());
+        let settling = op.settling_second();
+        return are_alike_but(
+            a.below.as_slice(),
+            a.row.as_slice(),
+            b.row.as_slice(),
+            settling,
+        );
     }
-    if is_new_b {
-        return are_alike_but(old_b, row_b, row_a, op.settling_first());
+    if b.is_new {
+        let settling = op.settling_first();
+        return are_alike_but(
+            b.below.as_slice(),
+            b.row.as_slice(),
+            a.row.as_slice(),
+            settling,
+        );
     }
     true
 }

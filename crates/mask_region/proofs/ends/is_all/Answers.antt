@@ -1,7 +1,6 @@
 use Rattle.std.proofs.Common.{arith, refl, subst, w32, FitsSigned}
-use Rattle.std.specs.Prelude.{ℤ, ◌≤ℤ◌, ◌<ℤ◌, Option, IfSome}
+use Rattle.std.specs.Prelude.{ℤ, ◌<ℤ◌, Option, IfSome}
 use Rattle.std.proofs.lemmas.Int.{ints, to_z-of_z}
-use Rattle.mask_region.specs.Rows.{end_at}
 use Rattle.mask_region.proofs.Rows.{odd_same, all_on}
 use Rattle.mask_region.proofs.ends.is_all.Goals as goal
 

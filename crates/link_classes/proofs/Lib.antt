@@ -4,3 +4,4 @@ pub mod Numbers
 pub mod Pairs
 pub mod UniqueNumbers
 pub mod OtherTouch
+pub mod Worked

@@ -10,10 +10,10 @@ use Rattle.link_classes.specs.Linked.{Linked}
 use Rattle.link_classes.specs.Numbering.{IsLeast, AreRoots, IsNumber, IsCount}
 use Rattle.link_classes.proofs.Chains.{linked_sym, linked_trans}
 
-some_one : {A : Type 0} (a b : A) → Some a ≡ Some b → a ≡ b
+pub some_one : {A : Type 0} (a b : A) → Some a ≡ Some b → a ≡ b
 some_one a b e = ap (λ o. elim o [ Some x ↦ x | None ↦ a ]) e
 
-no_some : {A : Type 0} {P : Type 0} (a : A) → None ≡ Some a → P
+pub no_some : {A : Type 0} {P : Type 0} (a : A) → None ≡ Some a → P
 no_some a e = let none : ⊥ = cc in absurd none
 
 -- each is one of the others

@@ -1,3 +1,4 @@
+pub mod LiteralLemmas
 pub mod Rising
 pub mod Solved
 pub mod Teachings
@@ -6,4 +7,5 @@ pub mod NumberLemmas
 pub mod ReadingLemmas
 pub mod FormulaLemmas
 pub mod FaultLemmas
+pub mod Instances
 pub mod Worked

@@ -6,11 +6,11 @@ pub record Clauses : Type 0 where
   pub vars : ℕ
   pub clauses : List (List ℤ)
 
--- the clause has variables from 1 to vars alone
+-- no variable of the clause is over this number
 abbrev pub IsOver : ℕ → List ℤ → Type 0
 IsOver vars clause = All (λ l. nat_abs l ≤ vars) clause
 
--- what a formula keeps
+-- what a formula keeps: each of its clauses is over its variables
 pub record IsFormula (vars : ℕ) (clauses : List (List ℤ)) : Type 0 where
   pub few_vars : vars < 2 ^ 31
   pub few_clauses : length clauses < 2 ^ 60

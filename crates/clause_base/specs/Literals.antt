@@ -1,5 +1,5 @@
 -- Literals: a variable, a number from 1, or its negation, the number below 0.
-use Rattle.std.specs.Prelude.{ℕ, ◌<◌, ◌^◌, ℤ, ◌<ℤ◌, nat_abs, Bool, ◌&&◌, nat_lt, List, length, slice_index_or}
+use Rattle.std.specs.Prelude.{ℕ, ◌+◌, ◌*◌, ◌<◌, ◌^◌, ℤ, pos, negsuc, ◌<ℤ◌, nat_abs, Bool, ◌&&◌, nat_lt, List, length, slice_index_or}
 use Rattle.std.specs.Ordering.{int_eq}
 use Rattle.std.specs.List.{list_any}
 
@@ -18,3 +18,8 @@ is_in clause l = list_any (λ m. int_eq m l) clause
 -- Each literal is below those behind it.
 pub record IsRising (clause : List ℤ) : Type 0 where
   pub rising : (j k : ℕ) (d : ℤ) → j < k → k < length clause → slice_index_or clause j d <ℤ slice_index_or clause k d
+
+-- The place of a literal in a table of all literals: twice the variable, and one more for its negation.
+abbrev pub code_of : ℤ → ℕ
+code_of (pos n) = 2 * n
+code_of (negsuc n) = 2 * n + 3

@@ -6,7 +6,7 @@
 //! or the text's first fault at its exact position. The definitions say when a clause is new, and when it teaches unit
 //! propagation something new; the laws tie these together.
 //!
-//! The arena of clauses, the checker of derivations, the solver and the encoding of tests stand on it.
+//! The arena of clauses, the checker of derivations and the solver stand on it.
 #![tactic(auto)]
 
 mod clauses;

@@ -1,5 +1,5 @@
 ghost use Rattle.std.specs.Prelude.{◌≡◌, neg_ℤ, nat_abs, Some, None, if◌then◌else◌};
-ghost use Rattle.clause_base.specs.Literals.{is_literal, IsLiteral};
+ghost use Rattle.clause_base.specs.Literals.{is_literal, IsLiteral, code_of};
 
 use std::marker::Model;
 
@@ -55,5 +55,14 @@ impl Lit {
         ensures literal { IsLiteral self }
     {
         self.value.unsigned_abs()
+    }
+
+    /// The place of the literal in a table of all literals: twice the variable, and one more for its negation.
+    pub fn code(self) -> usize
+        ensures same { result ≡ code_of self }
+        ensures literal { IsLiteral self }
+    {
+        let place = self.variable() as usize * 2;
+        if self.value < 0 { place + 1 } else { place }
     }
 }

@@ -15,11 +15,19 @@ fn lits(alloc: Global, numbers: &[i32]) -> Result<Vec<Lit>, AllocError> {
 
 #[test]
 fn literals_are_numbers_but_two(rt: HostRuntime) -> Result<(), Fail> {
-    for number in [1, -1, i32::MAX, -i32::MAX] {
+    let rows = [
+        (1, 2),
+        (-1, 3),
+        (3, 6),
+        (i32::MAX, 4_294_967_294),
+        (-i32::MAX, 4_294_967_295),
+    ];
+    for (number, code) in rows {
         let lit = Lit::new(number).ok_or("a literal")?;
         assert_eq!(rt; lit.value(), number);
         assert_eq!(rt; lit.negated().value(), -number);
         assert_eq!(rt; lit.variable(), number.unsigned_abs());
+        assert_eq!(rt; lit.code(), code);
     }
     assert!(rt; Lit::new(0).is_none());
     assert!(rt; Lit::new(i32::MIN).is_none());
@@ -108,7 +116,7 @@ fn texts_spell_formulas(rt: HostRuntime) -> Result<(), Fail> {
 #[test]
 fn first_faults_are_told(rt: HostRuntime) -> Result<(), Fail> {
     let alloc = rt.alloc();
-    let rows: [(&[u8], FormulaFault); 14] = [
+    let rows: [(&[u8], FormulaFault); 20] = [
         (b"", FormulaFault::Syntax(0)),
         (b"c only a comment\n", FormulaFault::Syntax(17)),
         (b" c 1 1", FormulaFault::Syntax(1)),
@@ -123,6 +131,12 @@ fn first_faults_are_told(rt: HostRuntime) -> Result<(), Fail> {
         (b"p cnf 1 1 1", FormulaFault::Syntax(11)),
         (b"p cnf 1 1 % 0", FormulaFault::Syntax(10)),
         (b"p cnf 1 1 1 0 1", FormulaFault::Syntax(14)),
+        (b"p cnf 1 1 +1 0", FormulaFault::Syntax(10)),
+        (b"p cnf 1 1 - 0", FormulaFault::Syntax(10)),
+        (b"p cnf 1 1 00", FormulaFault::Syntax(10)),
+        (b"p % 1 1", FormulaFault::Syntax(2)),
+        (b"p cnf 1000001 4000001", FormulaFault::TooLarge(6)),
+        (b"p cnf 1000000 4000000", FormulaFault::Syntax(21)),
     ];
     for (text, fault) in rows {
         match read_formula(alloc, text) {

@@ -1,4 +1,5 @@
 pub mod CauseLemmas
 pub mod WrittenLemmas
-mod PieceLemmas
+pub mod Texts
 mod FolderLemmas
+mod Worked

@@ -4,13 +4,6 @@ use Rattle.std.proofs.Math.Seq.{take-add}
 use Rattle.std.proofs.lemmas.List.{append-nil, take-append-drop, take_all, length-drop}
 use Rattle.probe_io.specs.Written.{Appends, AppendsFront}
 
--- where nothing changed, nothing was appended
-pub Appends-same : {old new : Option (List ℕ)} → new ≡ old → Appends old new []
-Appends-same {old = None} {new = None} same = record { told = tt }
-Appends-same {old = Some before} {new = None} same = record { told = tt }
-Appends-same {old = None} {new = Some now} same = absurd cc
-Appends-same {old = Some before} {new = Some now} same = record { told = grind (arith, append-nil) }
-
 -- one text, and then another
 pub Appends-then : {old between new : Option (List ℕ)} {xs ys : List ℕ} → Appends old between xs → Appends between new ys → Appends old new (xs ++ ys)
 Appends-then {new = None} first next = record { told = tt }
@@ -21,10 +14,6 @@ Appends-then {old = Some before} {between = Some middle} {new = Some now} {xs = 
 -- a whole text is a front of itself
 pub AppendsFront-whole : {old new : Option (List ℕ)} {xs : List ℕ} → Appends old new xs → AppendsFront old new xs
 AppendsFront-whole {xs = xs} front = record { sent = xs; rest = []; whole = sym (append-nil xs); front = front }
-
--- where nothing changed, the empty front of any text was appended
-pub AppendsFront-same : {old new : Option (List ℕ)} {xs : List ℕ} → new ≡ old → AppendsFront old new xs
-AppendsFront-same {xs = xs} same = record { sent = []; rest = xs; whole = refl; front = Appends-same same }
 
 -- a front of a text is one of a longer text
 pub AppendsFront-more : {old new : Option (List ℕ)} {xs : List ℕ} → AppendsFront old new xs → (ys : List ℕ) → AppendsFront old new (xs ++ ys)

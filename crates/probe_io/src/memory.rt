@@ -79,6 +79,7 @@ impl Shelf for MemShelf {
 
         ensures counted { self.new.plan ≡ after_call self.old.plan }
         ensures later { self.old.start_faults ≤ self.new.start_faults }
+        ensures quiet { OnOk result (self.new.start_faults ≡ self.old.start_faults) }
         ensures reads_kept { self.new.read_faults ≡ self.old.read_faults }
         ensures same { self.new.files ≡ self.old.files }
     {

@@ -13,7 +13,8 @@ pub struct Failed;
 /// Named files, of which one at a time is started and read.
 ///
 /// `files` are the files where the shelf tells them; they never change. `at` is the started file and
-/// the place in it. `start_faults` and `read_faults` count failed calls, and never fall.
+/// the place in it. `start_faults` and `read_faults` count failed calls: they never fall, and a call
+/// that succeeds leaves both as they were.
 pub trait Shelf {
     ghost files: { Self → Option (List File) };
 
@@ -34,6 +35,7 @@ pub trait Shelf {
         ensures absent_quiet { Lacks (files self.old) name.now → start_faults self.new ≡ start_faults self.old }
 
         ensures later { start_faults self.old ≤ start_faults self.new }
+        ensures quiet { OnOk result (start_faults self.new ≡ start_faults self.old) }
         ensures reads_kept { read_faults self.new ≡ read_faults self.old }
         ensures same { files self.new ≡ files self.old };
 
@@ -62,8 +64,8 @@ pub trait Shelf {
 
 /// What takes bytes.
 ///
-/// `written` is all that was written, where the sink tells it. `faults` counts failed calls, and
-/// never falls.
+/// `written` is all that was written, where the sink tells it. `faults` counts failed calls: it never
+/// falls, and a call that succeeds leaves it as it was.
 pub trait Sink {
     ghost written: { Self → Option (List ℕ) };
 

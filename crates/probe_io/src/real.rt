@@ -1,5 +1,7 @@
 // The devices of the system. Nothing is known of what the system gives or takes: they tell no content.
-ghost use Rattle.std.specs.Prelude.{◌≡◌, ◌<◌, ◌≤◌, None, length, IfOk};
+ghost use Rattle.std.specs.Prelude.{◌≡◌, ◌<◌, ◌≤◌, None, length, IfOk, OnErr};
+ghost use Rattle.std.specs.Io.KnownBytes.{ReadConsumes, WriteAppends};
+ghost use Rattle.probe_io.specs.Causes.{HasCause};
 
 use crate::outside::{Failed, Shelf, Sink};
 use std::io::{ErrorKind, Read, Write};
@@ -84,7 +86,8 @@ impl<'a, R: Files> Shelf for FileShelf<'a, R> {
 
 // One read, tried again as long as a signal interrupts it.
 fn read_some<F: Read>(file: &mut F, buf: &mut [u8]) -> Result<usize, Failed>
-    ensures { IfOk result (λ n. n ≤ length buf.new) }
+    ensures most { IfOk result (λ n. n ≤ length buf.new) }
+    ensures given { ReadConsumes (F.remaining file.old) (F.remaining file.new) result buf.new }
 {
     for _ in 0..u64::MAX {
         match file.read(buf) {
@@ -119,7 +122,14 @@ impl<W: Write + Drop> Sink for StreamSink<W> {
 
     ghost faults = { λ s. s.faults };
 
-    fn write(&mut self, piece: &[u8]) -> Result<usize, Failed> {
+    /// Writes to the writer, as `Sink` says: where that tells what it holds, it holds those bytes more.
+    fn write(&mut self, piece: &[u8]) -> Result<usize, Failed>
+        ensures held { WriteAppends (W.contents self.old.inner) (W.contents self.new.inner) result piece.now }
+        ensures most { IfOk result (λ n. n ≤ length piece.now) }
+        ensures some { IfOk result (λ n. 0 < length piece.now → 0 < n) }
+        ensures empty { length piece.now ≡ 0 → OnErr result ⊥ }
+        ensures cause { HasCause self.old.faults self.new.faults result }
+    {
         if piece.is_empty() {
             return Ok(0);
         }
@@ -135,6 +145,7 @@ impl<W: Write + Drop> Sink for StreamSink<W> {
 fn write_some<W: Write>(writer: &mut W, piece: &[u8]) -> Result<usize, Failed>
     ensures some { IfOk result (λ n. 0 < n) }
     ensures most { IfOk result (λ n. n ≤ length piece.now) }
+    ensures held { WriteAppends (W.contents writer.old) (W.contents writer.new) result piece.now }
 {
     for _ in 0..u64::MAX {
         match writer.write(piece) {

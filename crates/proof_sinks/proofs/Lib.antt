@@ -1,3 +1,4 @@
+pub mod LineTexts
 mod Checked
 mod Printed
 mod Steps

@@ -25,7 +25,7 @@ pub use laws::checked_lines_are_a_derivation;
 pub use lines::{Hints, Said};
 pub use list::StepList;
 pub use pair::StepPair;
-pub use printing::put_clause;
+pub use printing::{put_clause, put_derived, put_given};
 pub use sink::{ProofSink, StepFault};
 pub use text::StepText;
 

@@ -35,9 +35,44 @@ fn put_literal<K: Sink>(sink: &mut K, lit: Lit) -> Result<(), Failed>
     )
 }
 
-/// Writes hints: the numbers, each followed by a space, and `0`.
+/// Writes the line of a clause that is given. After `Failed`, a front of it was written. It takes no memory.
+pub fn put_given<K: Sink>(sink: &mut K, clause: &[Lit]) -> Result<(), Failed>
+    ensures ok { OnOk result (Appends (K.written sink.old) (K.written sink.new) (given_text clause.now)) }
+    ensures front { OnErr result (AppendsFront (K.written sink.old) (K.written sink.new) (given_text clause.now)) }
+    ensures cause { HasCause (K.faults sink.old) (K.faults sink.new) result }
+{
+    put_all(sink, b"f ")?;
+    put_clause(sink, clause)?;
+    put_all(sink, b"\n")
+}
+
+/// Writes the line of a derived clause of this number, with its hints. After `Failed`, a front of it was written. It
+/// takes no memory.
+pub fn put_derived<K: Sink>(
+    sink: &mut K,
+    number: u64,
+    clause: &[Lit],
+    hints: &[u64],
+) -> Result<(), Failed>
+    ensures ok { OnOk result (Appends (K.written sink.old) (K.written sink.new) (derived_text number clause.now hints.now)) }
+    ensures front { OnErr result (AppendsFront (K.written sink.old) (K.written sink.new) (derived_text number clause.now hints.now)) }
+    ensures cause { HasCause (K.faults sink.old) (K.faults sink.new) result }
+{
+    put_pieces(
+        sink,
+        &[Piece::Text(b"d "), Piece::Number(number), Piece::Text(b" ")],
+    )?;
+    put_clause(sink, clause)?;
+    put_all(sink, b" ")?;
+    put_hints(sink, hints)?;
+    put_all(sink, b"\n")
+}
+
+/// Writes the hints, each followed by a space, and `0`.
 fn put_hints<K: Sink>(sink: &mut K, hints: &[u64]) -> Result<(), Failed>
-    ensures { OnOk result (Appends (K.written sink.old) (K.written sink.new) (hints_text hints.now)) }
+    ensures ok { OnOk result (Appends (K.written sink.old) (K.written sink.new) (hints_text hints.now)) }
+    ensures front { OnErr result (AppendsFront (K.written sink.old) (K.written sink.new) (hints_text hints.now)) }
+    ensures cause { HasCause (K.faults sink.old) (K.faults sink.new) result }
 {
     for hint in hints {
         put_hint(sink, *hint)?;
@@ -48,19 +83,19 @@ fn put_hints<K: Sink>(sink: &mut K, hints: &[u64]) -> Result<(), Failed>
 /// Writes a hint and a space.
 #[tactic(auto, unfolding(crate::specs::Text::hint_text))]
 fn put_hint<K: Sink>(sink: &mut K, hint: u64) -> Result<(), Failed>
-    ensures { OnOk result (Appends (K.written sink.old) (K.written sink.new) (hint_text hint)) }
+    ensures ok { OnOk result (Appends (K.written sink.old) (K.written sink.new) (hint_text hint)) }
+    ensures front { OnErr result (AppendsFront (K.written sink.old) (K.written sink.new) (hint_text hint)) }
+    ensures cause { HasCause (K.faults sink.old) (K.faults sink.new) result }
 {
     put_pieces(sink, &[Piece::Number(hint), Piece::Text(b" ")])
 }
 
 /// The line of a clause that is given. It fails only where no memory is found.
-pub(crate) fn given_line(alloc: Global, lits: &[Lit]) -> Result<MemSink, Failed>
-    ensures { IfOk result (λ line. line.written ≡ given_text lits.now) }
+pub(crate) fn given_line(alloc: Global, clause: &[Lit]) -> Result<MemSink, Failed>
+    ensures { IfOk result (λ line. line.written ≡ given_text clause.now) }
 {
     let mut line = MemSink::new(alloc, Vec::new(alloc), usize::MAX);
-    put_all(&mut line, b"f ")?;
-    put_clause(&mut line, lits)?;
-    put_all(&mut line, b"\n")?;
+    put_given(&mut line, clause)?;
     Ok(line)
 }
 
@@ -74,13 +109,6 @@ pub(crate) fn derived_line(
     ensures { IfOk result (λ line. line.written ≡ derived_text number clause.now hints.now) }
 {
     let mut line = MemSink::new(alloc, Vec::new(alloc), usize::MAX);
-    put_pieces(
-        &mut line,
-        &[Piece::Text(b"d "), Piece::Number(number), Piece::Text(b" ")],
-    )?;
-    put_clause(&mut line, clause)?;
-    put_all(&mut line, b" ")?;
-    put_hints(&mut line, hints)?;
-    put_all(&mut line, b"\n")?;
+    put_derived(&mut line, number, clause, hints)?;
     Ok(line)
 }

@@ -10,5 +10,5 @@ pub loop-done-preserved : goal.loop-done-preserved
 loop-done-preserved g c = record {
   in_range = grind (arith, c.in_ok-done.ensures.most);
   written = Appends-slice _ _ _ c.loop-done.invariant.written c.in_ok-done.ensures.taken;
-  later = search rules;
+  quiet = search rules;
 }

@@ -7,5 +7,5 @@ loop-done-preserved g c = record {
   in_range = grind (arith, c.in_ok-count.ensures.most);
   counted = omega (arith, c.loop-done.invariant.counted);
   written = Appends-slice _ _ _ c.loop-done.invariant.written c.in_ok-count.ensures.taken;
-  later = search rules;
+  quiet = search rules;
 }

@@ -8,7 +8,7 @@ invariant-loop-done g l = record {
   in_range : l.done ≤ length l.bytes;
   counted : l.sent ≡ l.fn.sent + l.done;
   written : Appends (g.K.Sink.written l.fn.sink) (g.K.Sink.written l.sink) (take l.done l.bytes);
-  later : g.K.Sink.faults l.fn.sink ≤ g.K.Sink.faults l.sink;
+  quiet : g.K.Sink.faults l.sink ≡ g.K.Sink.faults l.fn.sink;
 }
 
 abbrev pub decreases-loop-done : goal.decreases-loop-done

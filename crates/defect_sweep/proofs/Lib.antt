@@ -9,3 +9,4 @@ pub mod Refused
 pub mod OneCounting
 pub mod Fitting
 pub mod TracedCounts
+pub mod Worked

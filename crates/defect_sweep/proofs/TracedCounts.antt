@@ -7,10 +7,11 @@ use Rattle.net_trace.specs.Same.{AreSameNets}
 use Rattle.defect_sweep.specs.declared.sides.SideWeight.{SideWeight}
 use Rattle.defect_sweep.specs.Counting.{Count, counts_of}
 use Rattle.defect_sweep.specs.Bridges.{AreCounts, HasManyBridges}
-use Rattle.defect_sweep.proofs.OneCounting.{one_count, one_counting, counts_by_regions}
+use Rattle.net_trace.proofs.NetNumbers.{net_count}
+use Rattle.defect_sweep.proofs.OneCounting.{one_counting, counts_by_regions}
 
 pub whole : (nets : Nets) (regions : List (List Strip)) (count wires : ℕ) → AreRegionsOf nets regions → IsNetCount nets count → wires ≡ length nets.wires → length regions ≡ count * wires
-whole nets regions count wires are counted is = are.each ∙ (λ i. one_count nets are.count count are.is_count counted i * sym is i)
+whole nets regions count wires are counted is = are.each ∙ (λ i. net_count nets are.count count are.is_count counted i * sym is i)
 
 pub are_counts : (nets : Nets) (sides : List SideWeight) (regions : List (List Strip)) (count wires : ℕ) (list : List Count) → AreRegionsOf nets regions → IsNetCount nets count → wires ≡ length nets.wires
     → list ≡ counts_of sides count wires regions → AreCounts nets sides list

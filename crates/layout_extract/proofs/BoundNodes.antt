@@ -20,7 +20,7 @@ use Rattle.net_trace.specs.Nets.{is_link, is_joined, IsNetNumber, node_at}
 use Rattle.layout_extract.specs.Labels.{cells_round, is_round, is_near, tried_wires, wire_of, is_shallow, is_wire, is_bound_at, IsAmbiguous}
 use Rattle.layout_extract.specs.Binding.{HasNodeIn, HasNoNodeIn, AreOneNet, AreTwoNets, IsBoundTo, HasWire}
 use Rattle.layout_extract.proofs.Places.{place_of, any_at, find_map, found_passes}
-use Rattle.layout_extract.proofs.NetNumbers.{net_one, net_links}
+use Rattle.net_trace.proofs.NetNumbers.{net_one, net_links}
 
 -- what touches is linked
 pub touch_link : (nets : Nets) (a b : Node) → touches nets a b ≡ true → is_link nets a b ≡ true

@@ -14,7 +14,7 @@ use Rattle.mask_region.specs.declared.strips.Strip.{Strip}
 use Rattle.mask_region.specs.Strips.{MaskLists}
 use Rattle.mask_algebra.specs.Masks.{AreMasks, IsMask}
 use Rattle.net_trace.specs.Touching.{Nets, traced_nets}
-use Rattle.net_trace.specs.Nets.{IsNetCount, HasMoreNets}
+use Rattle.net_trace.specs.Nets.{HasMoreNets}
 use Rattle.layout_extract.specs.declared.bindings.Binding.{Binding}
 use Rattle.layout_extract.specs.declared.refusal.LayoutRefusal.{LayoutRefusal}
 use Rattle.layout_extract.specs.declared.refusal.LayoutRefusal.TheVariants.{LabelAmbiguous}
@@ -22,7 +22,6 @@ use Rattle.layout_extract.specs.declared.tags.Spot.{Spot}
 use Rattle.layout_extract.specs.Binding.{IsBinding}
 use Rattle.layout_extract.specs.Layouts.{NamedNets, AreLayoutMasks, AreJoinedAs, labelled_by, IsNamed, HasAmbiguous, RefusesNaming}
 use Rattle.layout_extract.specs.Tags.{is_bound, is_unbound, is_deep, HasNoAmbiguous, HasAmbiguousAt, AreSpotsOf, AreJoinedAt, AreNamesAt}
-use Rattle.layout_extract.proofs.NetNumbers.{net_count}
 use Rattle.layout_extract.proofs.Bridge.{are_clear, first_is, spot_bound, bound_spot}
 use Rattle.layout_extract.proofs.CountLists.{bound_counted, unbound_counted, deep_counted}
 use Rattle.layout_extract.proofs.NetBridge.{AreSpotted, joined_as, names_are}
@@ -41,9 +40,6 @@ count_within test (x ∷ xs) = by_test (test x) (count_by test (x ∷ xs)) (coun
 
 pub cast_fits : {A : Type 0} (test : A → Bool) (xs : List A) (marks : List Mark) (most n : ℕ) → n ≡ count_by test xs → length xs ≡ length marks → length marks < most → n < most
 cast_fits test xs marks most n is size few = let within = count_within test xs in omega (arith, is, size, few, within)
-
-pub few_pieces : (nets : Nets) (count : ℕ) → IsNetCount nets count → count ≤ 8192 → HasMoreNets nets 8192 → ⊥
-few_pieces nets count is most more_ = let same = net_count nets more_.count count more_.is is in let lt = more_.more in omega (arith, same, lt, most)
 
 -- what the steps know
 pub record AreSteps (plan : Plan) (nets : Nets) (marks : List Mark) (bindings : List Binding) : Type 0 where

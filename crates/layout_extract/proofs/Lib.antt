@@ -1,5 +1,4 @@
 pub mod Places
-pub mod NetNumbers
 pub mod WireLists
 pub mod NearNodes
 pub mod BoundNodes
@@ -13,3 +12,4 @@ pub mod NetBridge
 pub mod LayoutFacts
 pub mod MarkCounts
 pub mod SameLayouts
+pub mod Worked

@@ -26,7 +26,7 @@ use Rattle.layout_extract.specs.Names.{Labelled, is_joining, is_joined_by_name, 
 use Rattle.layout_extract.specs.Layouts.{AreJoinedAs, AreNames}
 use Rattle.layout_extract.specs.Tags.{IsTagOf, numbers_of, IsPairOf, AreJoins, IsLeast, name_or, IsNameBy}
 use Rattle.layout_extract.proofs.Places.{any_at, place_of, zip_left, zip_right}
-use Rattle.layout_extract.proofs.NetNumbers.{net_one, net_links}
+use Rattle.net_trace.proofs.NetNumbers.{net_one, net_links}
 use Rattle.layout_extract.proofs.BoundNodes.{touch_link}
 use Rattle.layout_extract.proofs.Bridge.{link_touch, spot_node}
 

@@ -10,7 +10,7 @@ use Rattle.layout_extract.specs.declared.tags.Spot.{Spot}
 use Rattle.layout_extract.specs.declared.tags.Tag.{Tag}
 use Rattle.layout_extract.specs.Tags.{IsTagOf, IsPairOf, AreJoins}
 use Rattle.layout_extract.proofs.Places.{zip_right}
-use Rattle.layout_extract.proofs.NetNumbers.{net_below}
+use Rattle.net_trace.proofs.NetNumbers.{net_below}
 
 pub tags_below : (nets : Nets) (spots : List Spot) (tags : List Tag) (count : ℕ) → AllZip (IsTagOf nets) spots tags → IsNetCount nets count → All (λ (t : Tag). t.net.0 < count) tags
 tags_below nets spots tags count tagged counted k d lt =

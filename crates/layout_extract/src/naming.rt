@@ -30,8 +30,6 @@ pub(crate) fn name_layout(
 {
     let masks = evaluate(alloc, map, flat)?;
     let traced = trace(alloc, &masks, map)?;
-    // There are no more pieces than are counted.
-    let _pieces = traced.count();
     let marks = flat.marks();
     let bindings = bindings(alloc, &traced, map, marks)?;
     let bindings = bindings.as_slice();

@@ -11,6 +11,7 @@ use Rattle.std.proofs.lemmas.Option.{slice_get_within, slice_get_read, get_or_fr
 use Rattle.link_classes.specs.Linked.{Linked}
 use Rattle.link_classes.proofs.Chains.{linked_touch, linked_trans, linked_sym}
 use Rattle.link_classes.proofs.Pairs.{pair_shared}
+use Rattle.link_classes.proofs.UniqueNumbers.{some_one}
 use Rattle.mask_region.specs.declared.strips.Strip.{Strip}
 use Rattle.mask_region.specs.Strips.{is_in_strip, is_in, IsStrip, Follows}
 use Rattle.net_trace.specs.declared.node.Node.{Node}
@@ -19,7 +20,6 @@ use Rattle.net_trace.specs.Touching.{Cut, Nets, is_node, is_beside, is_along, is
 use Rattle.net_trace.specs.Nets.{node_at}
 use Rattle.net_trace.specs.Wirings.{is_at, corner, vertices_of, IsVertexAt, IsBehind, AreOrdered, is_meeting, is_below, IsBelowPair, AreBands, IsSound, AreShared, IsKept, is_along_wire, AreEdges, AreOneUnder, IsTieOf, AreTied}
 use Rattle.net_trace.proofs.Lists.{all_left, all_right, or_second, or_either}
-use Rattle.net_trace.proofs.VertexLists.{some_one}
 use Rattle.net_trace.proofs.VertexFacts.{node_of}
 use Rattle.net_trace.proofs.Values.{corner_linked, along_touches}
 

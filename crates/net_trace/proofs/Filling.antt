@@ -6,12 +6,13 @@ use Rattle.std.proofs.lemmas.List.{length-set}
 use Rattle.std.proofs.lemmas.Nat.{div-mul-add}
 use Rattle.std.proofs.lemmas.List.Elements.{recursion_from_All}
 use Rattle.std.proofs.lemmas.Option.{slice_get_within, slice_get-get_or, get_or_from_slice_get}
+use Rattle.link_classes.proofs.UniqueNumbers.{some_one, no_some}
 use Rattle.mask_region.specs.declared.strips.Strip.{Strip}
 use Rattle.mask_region.specs.Strips.{Follows, Banded, IsStripWithin, AreStripsWithin, AreRegionsWithin}
 use Rattle.mask_region.proofs.Banding.{banded-push}
 use Rattle.net_trace.specs.declared.wiring.Vertex.{Vertex}
 use Rattle.net_trace.specs.Wirings.{vertices_of, IsBehind, AreOrdered, AreParts, AreEmpty}
-use Rattle.net_trace.proofs.VertexLists.{some_one, no_some, get_left, get_right, get_append, of_wire}
+use Rattle.net_trace.proofs.VertexLists.{get_left, get_right, get_append, of_wire}
 
 -- ---- one element of a list is set
 

@@ -11,13 +11,14 @@ use Rattle.std.proofs.lemmas.Option.{slice_get_within, slice_get_read, slice_get
 use Rattle.link_classes.specs.Linked.{Linked}
 use Rattle.link_classes.specs.Classes.{has_pair, AreClasses}
 use Rattle.link_classes.proofs.Chains.{linked_touch, linked_trans, linked_map}
+use Rattle.link_classes.proofs.UniqueNumbers.{some_one, no_some}
 use Rattle.net_trace.specs.declared.node.Node.{Node}
 use Rattle.net_trace.specs.declared.wiring.Vertex.{Vertex}
 use Rattle.net_trace.specs.Touching.{Nets, is_node, touches}
 use Rattle.net_trace.specs.Nets.{node_cmp, is_same, is_joined, is_link}
 use Rattle.net_trace.specs.Wirings.{is_at, corner, vertices_of, AreAllBanded, AreOrdered, IsVertexAt, IsTraced, ArePicked, AreNumbered}
 use Rattle.net_trace.proofs.Lists.{or_first, or_second, or_either}
-use Rattle.net_trace.proofs.VertexLists.{some_one, no_some, vertices_ordered}
+use Rattle.net_trace.proofs.VertexLists.{vertices_ordered}
 use Rattle.net_trace.proofs.VertexFacts.{has_corner, node_of, one_vertex}
 use Rattle.net_trace.proofs.TracedNets.{not_before}
 use Rattle.net_trace.proofs.TracedStart.{less_both}

@@ -3,6 +3,7 @@ pub mod VertexLists
 pub mod VertexFacts
 pub mod Wires
 pub mod NodeOrder
+pub mod NetNumbers
 pub mod Rectangles
 pub mod Tying
 pub mod Edging
@@ -15,3 +16,4 @@ pub mod ListReads
 pub mod TracedStart
 pub mod JoinedNets
 pub mod Making
+pub mod Worked

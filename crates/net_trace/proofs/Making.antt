@@ -16,6 +16,7 @@ use Rattle.net_trace.specs.declared.wiring.Vertex.{Vertex}
 use Rattle.net_trace.specs.Touching.{Cut, Nets, cuts_of, traced_nets}
 use Rattle.net_trace.specs.Nets.{IsJoinedBy, HasMoreNets}
 use Rattle.net_trace.specs.Wirings.{vertices_of, AreAllBanded, AreEdges, IsTraced, AreCorners, ArePicked, AreNumbered, AreEndsOf, cuts_with}
+use Rattle.net_trace.proofs.NetNumbers.{net_count}
 use Rattle.net_trace.proofs.TracedNets.{roots_are, count_of}
 use Rattle.net_trace.proofs.TracedStart.{traced_start}
 use Rattle.net_trace.proofs.JoinedNets.{traced_joined}
@@ -60,6 +61,13 @@ nets_made plan masks wires cuts joins is_wires is_cuts is_joins = λ i. record {
 
 pub more_made : (nets named : Nets) (label : List ℕ) (roots : List Node) → nets ≡ named → AreAllBanded nets.wires → IsTraced nets label roots → 8192 < length roots → HasMoreNets named 8192
 more_made nets named label roots is banded h more = subst (λ (n : Nets). HasMoreNets n 8192) is (record { count = length roots; is = count_of nets label roots banded h; more = more })
+
+pub few_made : (nets named : Nets) (label : List ℕ) (roots : List Node) → named ≡ nets → AreAllBanded nets.wires → IsTraced nets label roots → length roots ≤ 8192 → HasMoreNets named 8192 → ⊥
+few_made nets named label roots is banded h few more_ =
+    let many : HasMoreNets nets 8192 = subst (λ (n : Nets). HasMoreNets n 8192) is more_ in
+    let same = net_count nets many.count (length roots) many.is (count_of nets label roots banded h) in
+    let lt = many.more in
+    omega (arith, same, few, lt)
 
 -- ---- joining
 

@@ -9,7 +9,7 @@ use Rattle.std.proofs.lemmas.Bool.{and_parts, and_from, eqb-true, eq-eqb}
 use Rattle.std.proofs.lemmas.Option.{slice_get_within, slice_get-get_or, get_or_from_slice_get}
 use Rattle.link_classes.specs.Linked.{Linked}
 use Rattle.link_classes.proofs.Chains.{linked_refl, linked_touch, linked_trans, linked_sym, linked_map, linked_kept}
-use Rattle.link_classes.proofs.UniqueNumbers.{number_one}
+use Rattle.link_classes.proofs.UniqueNumbers.{some_one}
 use Rattle.mask_region.specs.declared.strips.Strip.{Strip}
 use Rattle.mask_region.specs.Strips.{is_in_strip}
 use Rattle.net_trace.specs.declared.node.Node.{Node}
@@ -18,10 +18,11 @@ use Rattle.net_trace.specs.Touching.{Nets, is_node, is_along, is_through, touche
 use Rattle.net_trace.specs.Nets.{node_cmp, is_joined, is_link, AreNetRoots, IsNetNumber, IsNetCount, node_at, IsRegionOf, AreRegionsOf}
 use Rattle.net_trace.specs.Wirings.{is_at, corner, vertices_of, AreAllBanded, IsVertexAt, AreOrdered, IsTraced, AreParts}
 use Rattle.net_trace.proofs.Lists.{or_first, or_either}
-use Rattle.net_trace.proofs.VertexLists.{some_one, vertices_ordered, of_wire}
+use Rattle.net_trace.proofs.VertexLists.{vertices_ordered, of_wire}
 use Rattle.net_trace.proofs.VertexFacts.{in_region, strip_with, node_vertex, node_of, has_corner}
 use Rattle.net_trace.proofs.Values.{linked_value, corner_linked}
 use Rattle.net_trace.proofs.Filling.{place_in}
+use Rattle.net_trace.proofs.NetNumbers.{net_one}
 use Rattle.net_trace.proofs.NodeOrder.{node_total, node_equal, corner_least}
 
 -- ---- order
@@ -107,7 +108,7 @@ module _ (nets : Nets) (label : List ℕ) (roots : List Node) (banded : AreAllBa
   count_of = record { roots = roots; are = roots_are; is = refl }
 
   pub number_is : (a : Node) (i n : ℕ) → IsVertexAt (vertices_of 0 nets.wires) a i → IsNetNumber nets a n → slice_index label i ≡ n
-  number_is a i n at_i number = number_one node_cmp node_total node_equal (is_node nets) (is_link nets) a a (slice_index label i) n (number_of a i at_i) number (linked_refl (is_link nets) a)
+  number_is a i n at_i number = net_one nets a a (slice_index label i) n (number_of a i at_i) number (linked_refl (is_link nets) a)
 
   pub label_below : (i : ℕ) (u : Vertex) → slice_get (vertices_of 0 nets.wires) i ≡ Some u → slice_index label i < length roots
   label_below i u at = let (root, at_root, linked, before) = h.reached i u at in slice_get_within roots (slice_index label i) root at_root

@@ -9,6 +9,7 @@ use Rattle.std.proofs.lemmas.Option.{slice_get_within, slice_get-get_or, get_or_
 use Rattle.link_classes.specs.Linked.{Linked}
 use Rattle.link_classes.specs.Classes.{has_pair, AreClasses}
 use Rattle.link_classes.proofs.Chains.{linked_map}
+use Rattle.link_classes.proofs.UniqueNumbers.{some_one}
 use Rattle.mask_region.specs.declared.strips.Strip.{Strip}
 use Rattle.net_trace.specs.declared.node.Node.{Node}
 use Rattle.net_trace.specs.declared.wiring.Vertex.{Vertex}
@@ -16,7 +17,7 @@ use Rattle.net_trace.specs.Touching.{Cut, Nets, is_node, touches}
 use Rattle.net_trace.specs.Nets.{node_cmp, is_joined, is_link}
 use Rattle.net_trace.specs.Wirings.{corner, vertices_of, AreAllBanded, AreOrdered, AreShared, IsSound, AreEdges, IsTraced, AreCorners}
 use Rattle.net_trace.proofs.Lists.{or_either}
-use Rattle.net_trace.proofs.VertexLists.{some_one, vertices_ordered}
+use Rattle.net_trace.proofs.VertexLists.{vertices_ordered}
 use Rattle.net_trace.proofs.TracedNets.{touch_linked}
 use Rattle.net_trace.proofs.NodeOrder.{node_total, corner_before}
 

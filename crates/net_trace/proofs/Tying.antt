@@ -7,13 +7,14 @@ use Rattle.std.proofs.lemmas.Int.{ints}
 use Rattle.std.proofs.lemmas.List.Elements.{All-nil, All-push, All-append, All-weaker}
 use Rattle.std.proofs.lemmas.List.Folds.{Any-from_list_any, list_any-from_Any}
 use Rattle.std.proofs.lemmas.Option.{slice_get_within, slice_get_past, slice_get_read, slice_get-get_or, get_or_from_slice_get}
+use Rattle.link_classes.proofs.UniqueNumbers.{some_one}
 use Rattle.mask_region.specs.declared.strips.Strip.{Strip}
 use Rattle.mask_region.specs.Strips.{is_in_strip, is_in, IsStrip, Banded}
 use Rattle.net_trace.specs.Touching.{Nets, Cut, is_in_wire, is_listed}
 use Rattle.net_trace.specs.Nets.{node_at}
 use Rattle.net_trace.specs.Wirings.{vertices_of, IsVertexAt, AreOrdered, AreShared, IsKept, is_along_wire, IsTie, AreOneUnder, AreTiedBy, IsTieOf, AreTied}
 use Rattle.net_trace.proofs.Lists.{none_more, all_left, all_right, all_last, not_both_ways}
-use Rattle.net_trace.proofs.VertexLists.{some_one, strip_in}
+use Rattle.net_trace.proofs.VertexLists.{strip_in}
 use Rattle.net_trace.proofs.VertexFacts.{in_region, strip_with, node_vertex, node_of, one_vertex}
 use Rattle.net_trace.proofs.Rectangles.{rectangle_linked}
 use Rattle.net_trace.proofs.Values.{linked_value, along_nodes}

@@ -1,18 +1,13 @@
 -- The list of the strips of all wires: which wire and which strip has which index.
-use Rattle.std.proofs.Common.{◌≡◌, ℕ, zero, suc, ◌+◌, ◌<◌, ◌≤◌, ◌⊎◌, List, [], ◌∷◌, ◌++◌, length, take, refl, sym, ap, ◌∙◌, subst, arith, inl, inr, slice_get, get_or, Some, None, length-append, append_assoc}
+use Rattle.std.proofs.Common.{◌≡◌, ℕ, zero, suc, ◌+◌, ◌<◌, ◌≤◌, ◌⊎◌, List, [], ◌∷◌, ◌++◌, length, take, refl, sym, ap, ◌∙◌, subst, arith, inl, inr, slice_get, get_or, Some, length-append, append_assoc}
 use Rattle.std.specs.List.{All}
 use Rattle.std.proofs.lemmas.List.Elements.{All-from_recursion}
 use Rattle.std.proofs.lemmas.Option.{slice_get_within, get_or_from_slice_get}
+use Rattle.link_classes.proofs.UniqueNumbers.{some_one, no_some}
 use Rattle.mask_region.specs.declared.strips.Strip.{Strip}
 use Rattle.mask_region.specs.Strips.{IsStrip, Follows, IsBanded}
 use Rattle.net_trace.specs.declared.wiring.Vertex.{Vertex}
 use Rattle.net_trace.specs.Wirings.{strips_of, vertices_of, AreAllBanded, IsBehind, AreOrdered}
-
-pub some_one : {A : Type 0} (a b : A) → Some a ≡ Some b → a ≡ b
-some_one a b e = ap (λ o. elim o [ Some x ↦ x | None ↦ a ]) e
-
-pub no_some : {A : Type 0} {P : Type 0} (a : A) → None ≡ Some a → P
-no_some a e = let none : ⊥ = cc in absurd none
 
 -- ---- lists that are put together
 

@@ -4,12 +4,13 @@ use Rattle.std.specs.Prelude.{ℤ}
 use Rattle.std.proofs.lemmas.Bool.{cases_order}
 use Rattle.std.proofs.lemmas.List.{get_or_push, get_or_append_left, length_push, take_more, take_all, length-take-le}
 use Rattle.std.proofs.lemmas.Option.{slice_get_read, get_or_from_slice_get, slice_get_within, slice_get-get_or}
+use Rattle.link_classes.proofs.UniqueNumbers.{some_one}
 use Rattle.mask_region.specs.declared.strips.Strip.{Strip}
 use Rattle.mask_region.specs.Strips.{Banded, HasCellAt}
 use Rattle.net_trace.specs.declared.wiring.Vertex.{Vertex}
 use Rattle.net_trace.specs.Nets.{node_at}
 use Rattle.net_trace.specs.Wirings.{strips_of, vertices_of, start_of, AreStarts, AreAllBanded, IsVertexAt}
-use Rattle.net_trace.proofs.VertexLists.{some_one, vertices_more}
+use Rattle.net_trace.proofs.VertexLists.{vertices_more}
 use Rattle.net_trace.proofs.VertexFacts.{found_at}
 
 pub found_index : (wires : List (List Strip)) (starts : List ℕ) (w k start : ℕ) (r : List Strip) (x y : ℤ) → AreStarts wires starts (length wires) → w < length wires → r ≡ get_or wires w r

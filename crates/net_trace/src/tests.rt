@@ -89,80 +89,86 @@ fn traced(alloc: Global, map: &LayerMap, drawing: &Drawing) -> Result<Traced, Tr
     nets(alloc, &masks, map)
 }
 
+/// A layout and the number of its nets.
+#[derive(Clone, Copy)]
+struct Row {
+    shows: &'static str,
+    drawing: Drawing,
+    nets: u32,
+}
+
+const ROWS: [Row; 7] = [
+    Row {
+        shows: "nothing",
+        drawing: Drawing {
+            first: &[],
+            second: &[],
+            cut: &[(0, 0, 2, 2)],
+        },
+        nets: 0,
+    },
+    Row {
+        shows: "corners meet",
+        drawing: Drawing {
+            first: &[(0, 0, 2, 2), (2, 2, 4, 4)],
+            second: &[],
+            cut: &[],
+        },
+        nets: 2,
+    },
+    Row {
+        shows: "edges meet",
+        drawing: Drawing {
+            first: &[(0, 0, 2, 2), (2, 0, 4, 3)],
+            second: &[],
+            cut: &[],
+        },
+        nets: 1,
+    },
+    Row {
+        shows: "a via",
+        drawing: Drawing {
+            first: &[(0, 0, 4, 4)],
+            second: &[(1, 1, 9, 3)],
+            cut: &[(2, 2, 3, 3)],
+        },
+        nets: 1,
+    },
+    Row {
+        shows: "no via",
+        drawing: Drawing {
+            first: &[(0, 0, 4, 4)],
+            second: &[(1, 1, 9, 3)],
+            cut: &[],
+        },
+        nets: 2,
+    },
+    Row {
+        shows: "a via over one wire",
+        drawing: Drawing {
+            first: &[(0, 0, 4, 4)],
+            second: &[(4, 0, 9, 4)],
+            cut: &[(2, 2, 5, 3)],
+        },
+        nets: 2,
+    },
+    Row {
+        shows: "a U",
+        drawing: Drawing {
+            first: &[(0, 0, 1, 5), (4, 0, 5, 5)],
+            second: &[(0, 4, 5, 5)],
+            cut: &[(0, 4, 5, 5)],
+        },
+        nets: 1,
+    },
+];
+
 #[test]
 fn counts_nets(rt: HostRuntime) -> Result<(), Fail> {
     let map = read(rt.alloc(), MAP)?;
-    let rows: [(&str, Drawing, u32); 7] = [
-        (
-            "nothing",
-            Drawing {
-                first: &[],
-                second: &[],
-                cut: &[(0, 0, 2, 2)],
-            },
-            0,
-        ),
-        (
-            "corners meet",
-            Drawing {
-                first: &[(0, 0, 2, 2), (2, 2, 4, 4)],
-                second: &[],
-                cut: &[],
-            },
-            2,
-        ),
-        (
-            "edges meet",
-            Drawing {
-                first: &[(0, 0, 2, 2), (2, 0, 4, 3)],
-                second: &[],
-                cut: &[],
-            },
-            1,
-        ),
-        (
-            "a via",
-            Drawing {
-                first: &[(0, 0, 4, 4)],
-                second: &[(1, 1, 9, 3)],
-                cut: &[(2, 2, 3, 3)],
-            },
-            1,
-        ),
-        (
-            "no via",
-            Drawing {
-                first: &[(0, 0, 4, 4)],
-                second: &[(1, 1, 9, 3)],
-                cut: &[],
-            },
-            2,
-        ),
-        (
-            "a via over one wire",
-            Drawing {
-                first: &[(0, 0, 4, 4)],
-                second: &[(4, 0, 9, 4)],
-                cut: &[(2, 2, 5, 3)],
-            },
-            2,
-        ),
-        (
-            "a U",
-            Drawing {
-                first: &[(0, 0, 1, 5), (4, 0, 5, 5)],
-                second: &[(0, 4, 5, 5)],
-                cut: &[(0, 4, 5, 5)],
-            },
-            1,
-        ),
-    ];
-    for (shows, drawing, count) in rows {
-        assert_eq!(rt;
-            traced(rt.alloc(), &map, &drawing)?.count(),
-            count,
-            "{shows}"
-        );
+    for row in &ROWS {
+        let nets = traced(rt.alloc(), &map, &row.drawing)?;
+        assert_eq!(rt; nets.count(), row.nets, "{}", row.shows);
     }
     Ok(())
 }

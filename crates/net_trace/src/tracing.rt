@@ -26,6 +26,7 @@ pub fn trace(alloc: Global, masks: &Masks, map: &LayerMap) -> Result<Traced, Tra
     requires cuts { length masks.now.cuts ≡ length map.now.cuts }
     requires channels { length masks.now.channels ≡ length map.now.fets }
     ensures traced { IfOk result (λ t. t ≡ traced_nets map.now masks.now) }
+    ensures few { IfOk result (λ t. HasMoreNets t 8192 → ⊥) }
     ensures many { result ≡ Err TraceRefusal.TooManyNets → HasMoreNets (traced_nets map.now masks.now) 8192 }
 {
     let cuts = cut_areas(alloc, masks.cuts(), map.cuts())?;

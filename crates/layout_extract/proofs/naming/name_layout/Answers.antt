@@ -6,7 +6,7 @@ use Rattle.layout_extract.specs.Tags.{is_bound, is_unbound, is_deep, AreSpotsOf}
 use Rattle.layout_extract.specs.Layouts.{IsNamed}
 use Rattle.layout_extract.proofs.NetBridge.{same_nodes}
 use Rattle.layout_extract.proofs.Bridge.{have_nodes, spot_node}
-use Rattle.layout_extract.proofs.LayoutFacts.{masks_size, cast_fits, few_pieces, refuses_ambiguous, is_named}
+use Rattle.layout_extract.proofs.LayoutFacts.{masks_size, cast_fits, refuses_ambiguous, is_named}
 use Rattle.layout_extract.proofs.naming.name_layout.Goals as goal
 
 pub trace-requires-clause-wires : goal.trace-requires-clause-wires
@@ -25,7 +25,7 @@ pub returns-in-Some-clause-refused : goal.returns-in-Some-clause-refused
 returns-in-Some-clause-refused c =
     refuses_ambiguous c.args.map.now c.args.flat.now c.in_ok-masks.masks (record { wires = c.in_ok-masks.ensures.wires; cuts = c.in_ok-masks.ensures.cuts; channels = c.in_ok-masks.ensures.channels })
     c.in_ok-traced.traced c.marks-marks.result.now c.as_slice-bindings.result.now c.in-Some.pos c.in_ok-traced.ensures.traced c.marks-marks.ensures.same
-    (record { few = few_pieces c.in_ok-traced.traced c.count-pieces.result c.count-pieces.ensures.is c.count-pieces.ensures.most; zip = (subst (λ bs. AllZip (IsBinding c.in_ok-traced.traced c.args.map.now) c.marks-marks.result.now bs) (sym c.as_slice-bindings.ensures.value) c.in_ok-bindings.ensures) }) c.in-Some.ensures
+    (record { few = c.in_ok-traced.ensures.few; zip = (subst (λ bs. AllZip (IsBinding c.in_ok-traced.traced c.args.map.now) c.marks-marks.result.now bs) (sym c.as_slice-bindings.ensures.value) c.in_ok-bindings.ensures) }) c.in-Some.ensures
 
 pub spots-requires : goal.spots-requires
 spots-requires c = (sym (AllZip-long (IsBinding c.in_ok-traced.traced c.args.map.now) c.marks-marks.result.now c.as_slice-bindings.result.now (subst (λ bs. AllZip (IsBinding c.in_ok-traced.traced c.args.map.now) c.marks-marks.result.now bs) (sym c.as_slice-bindings.ensures.value) c.in_ok-bindings.ensures)))
@@ -53,7 +53,7 @@ returns-clause-named c =
     (record { nets = c.in_ok-joined.joined; masks = c.in_ok-masks.masks; names = c.in_ok-names.names.items; bound = c.count_bound-bound.result; unbound = c.count_unbound-unbound.result; deep = c.count_deep-deep.result })
     c.in_ok-traced.ensures.traced c.marks-marks.ensures.same
     (record {
-      steps = (record { few = few_pieces c.in_ok-traced.traced c.count-pieces.result c.count-pieces.ensures.is c.count-pieces.ensures.most; zip = (subst (λ bs. AllZip (IsBinding c.in_ok-traced.traced c.args.map.now) c.marks-marks.result.now bs) (sym c.as_slice-bindings.ensures.value) c.in_ok-bindings.ensures) });
+      steps = (record { few = c.in_ok-traced.ensures.few; zip = (subst (λ bs. AllZip (IsBinding c.in_ok-traced.traced c.args.map.now) c.marks-marks.result.now bs) (sym c.as_slice-bindings.ensures.value) c.in_ok-bindings.ensures) });
       clear = c.in_default.ensures;
       spotted = (subst (λ ss. AreSpotsOf c.marks-marks.result.now c.as_slice-bindings.result.now (length c.marks-marks.result.now) ss) (sym c.as_slice-spots.ensures.value) c.in_ok-spots.ensures);
       joined = c.in_ok-joined.ensures;

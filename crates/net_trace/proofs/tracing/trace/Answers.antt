@@ -2,13 +2,22 @@ use Rattle.std.proofs.Common.{◌<◌, [], length, ap, sym, ◌∙◌, arith, su
 use Rattle.std.specs.List.{All}
 use Rattle.net_trace.specs.Touching.{Nets, traced_nets}
 use Rattle.net_trace.specs.Wirings.{IsTraced}
-use Rattle.net_trace.proofs.Making.{least_below, trace_made, cuts_made, nets_made, more_made}
+use Rattle.net_trace.proofs.Making.{least_below, trace_made, cuts_made, nets_made, more_made, few_made}
 use Rattle.net_trace.proofs.tracing.trace.Goals as goal
 
 pub returns-clause-traced : goal.returns-clause-traced
 returns-clause-traced c = c.in_ok-new.ensures ∙ nets_made c.args.map.now c.args.masks.now c.in_ok-wiring.wiring c.in_ok-cuts.cuts.items c.new-2.result.items
     (c.in_ok-wiring.ensures ∙ c.in_ok-copies.ensures ∙ c.wires.ensures.same)
     (cuts_made c.args.map.now c.args.masks.now c.in_ok-cuts.cuts.items c.cuts.result.now c.cuts-2.result.now c.cuts.ensures.same c.cuts-2.ensures.same c.in_ok-cuts.ensures) c.new-2.ensures.items
+
+pub returns-clause-few : goal.returns-clause-few
+returns-clause-few c =
+    let nets : Nets = record { wires = c.in_ok-wiring.wiring; cuts = c.in_ok-cuts.cuts.items; joins = c.new-2.result.items } in
+    few_made nets _ c.in_ok-label.field-0.label.items c.in_ok-roots.roots.items c.in_ok-new.ensures c.vertices.ensures.banded
+    (trace_made c.in_ok-wiring.wiring c.in_ok-cuts.cuts.items c.as_slice.result.now c.new-2.result.items c.vertices.result.now c.vertices-2.result.now c.in_ok-pairs.pairs.items c.as_slice-2.result.now
+    c.in_ok-label.field-0.label.items c.in_ok-label.field-0.least.items c.as_slice-3.result.now c.in_ok-roots.roots.items c.vertices.ensures.banded c.vertices.ensures.same c.vertices-2.ensures.same c.as_slice.ensures.value c.as_slice-2.ensures.value c.as_slice-3.ensures.value c.new-2.ensures.items
+    c.in_ok-pairs.ensures c.in_ok-label.ensures c.in_ok-roots.ensures)
+    (omega (arith, c.if-len-gt-MOST_NETS.false, c.len.ensures, c.in_ok-roots.roots.ok.0))
 
 pub corners-requires : goal.corners-requires
 corners-requires c =

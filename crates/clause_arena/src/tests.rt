@@ -1,4 +1,4 @@
-use crate::Arena;
+use crate::{Arena, Store};
 use clause_base::{Lit, normal};
 use std::test::Fail;
 
@@ -28,5 +28,23 @@ fn references_give_their_clauses(rt: HostRuntime) -> Result<(), Fail> {
         );
     }
     assert_eq!(rt; arena.len(), 4);
+    Ok(())
+}
+
+#[test]
+fn a_store_keeps_clauses_as_they_are(rt: HostRuntime) -> Result<(), Fail> {
+    let alloc = rt.alloc();
+    let rows: [&[i32]; 4] = [&[2, -1, 2], &[], &[1, -1], &[3]];
+    let mut store = Store::new(alloc);
+    for numbers in rows {
+        let mut lits = Vec::new(alloc);
+        for number in numbers {
+            lits.push(Lit::new(*number).ok_or("a literal")?)?;
+        }
+        let place = store.len();
+        store.add(lits.as_slice())?;
+        assert_eq!(rt; store.clause(place), lits.as_slice());
+    }
+    assert_eq!(rt; store.len(), 4);
     Ok(())
 }

@@ -129,7 +129,7 @@ empty_clause s = not_true holds [] refl (s 0 [] (omega arith))
 -- ---- what is new, and what teaches
 
 -- the formula of two variables that has no solution
-square : List (List ℤ)
+pub square : List (List ℤ)
 square = (pos 1 ∷ pos 2 ∷ []) ∷ (pos 1 ∷ negsuc 1 ∷ []) ∷ (negsuc 0 ∷ pos 2 ∷ []) ∷ (negsuc 0 ∷ negsuc 1 ∷ []) ∷ []
 
 nothing : ℤ → Bool
@@ -184,7 +184,7 @@ square_open : IsOpen square
 square_open = record { set = nothing; consistent = nothing_is_consistent; closed = square_closed }
 
 -- the first line of its refutation
-one_teaches : Teaches square (pos 1 ∷ [])
+pub one_teaches : Teaches square (pos 1 ∷ [])
 unfolding nothing
 one_teaches = record {
   lit = pos 1;
@@ -198,7 +198,7 @@ one_teaches = record {
 }
 
 -- With it unit propagation refutes: 1, then 2, and the last clause is false.
-square_and_one : IsOpen (square ++ (pos 1 ∷ []) ∷ []) → ⊥
+pub square_and_one : IsOpen (square ++ (pos 1 ∷ []) ∷ []) → ⊥
 unfolding square
 square_and_one left = (left.closed 3 [] (omega arith)).standing (all (λ m. left.set (neg_ℤ m) ≡ true) (negsuc 0 ∷ negsuc 1 ∷ []) (one, (two, tt))) where
   one : left.set (pos 1) ≡ true

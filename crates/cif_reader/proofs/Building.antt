@@ -35,14 +35,14 @@ pub on_ok5 : {T E P Q R S V U : Type 0} (r : Result T E) → (P → Q → R → 
 on_ok5 (Ok x) f p q s t v = f p q s t v
 on_ok5 (Err e) f p q s t v = p
 
-said_as : (before : List Placed) (b : Builder) (what : Command) (scale : Scale) → IsBuilt before b → scale ≡ scale_in (opening_of b.open) → said b.layer scale what ≡ said (layer_behind before) (scale_behind before) what
+said_as : (before : List Placed) (b : Builder) (what : Command) (scale : Scale) → IsBuilt before b → scale ≡ scale_in (opening_of b.definition) → said b.layer scale what ≡ said (layer_behind before) (scale_behind before) what
 said_as before b what scale h e = λ i. said (h.layer i) ((e ∙ ap scale_in h.opening) i) what
 
 remark_at : ℕ → Saying → Remark
 remark_at at what = record { at = at; what = what }
 
 -- a command that says nothing
-pub nothing_built : (before : List Placed) (b : Builder) (at : ℕ) (what : Command) (w : Option What) (scale : Scale) → IsBuilt before b → is_bare what ≡ true → scale ≡ scale_in (opening_of b.open) → w ≡ None → IsSaidBy w (said b.layer scale what) → IsBuilt (record { at = at; what = what } ∷ before) b
+pub nothing_built : (before : List Placed) (b : Builder) (at : ℕ) (what : Command) (w : Option What) (scale : Scale) → IsBuilt before b → is_bare what ≡ true → scale ≡ scale_in (opening_of b.definition) → w ≡ None → IsSaidBy w (said b.layer scale what) → IsBuilt (record { at = at; what = what } ∷ before) b
 nothing_built before b at what w scale h bare e none s =
     let c : Placed = record { at = at; what = what } in
     let step = bare_step before at what bare in
@@ -52,7 +52,7 @@ nothing_built before b at what w scale h bare e none s =
       layer = h.layer ∙ sym step.layer_is;
       outer = h.outer ∙ sym step.around_is;
       opening = h.opening ∙ sym step.open_is;
-      inside = λ t. subst (AreSaid (items_in b.open)) (sym (step.since_is ∙ ap (λ r. said_since before ++ r) empty ∙ append-nil (said_since before))) (h.inside t);
+      inside = λ t. subst (AreSaid (items_in b.definition)) (sym (step.since_is ∙ ap (λ r. said_since before ++ r) empty ∙ append-nil (said_since before))) (h.inside t);
       symbols = subst (AreDefined b.file.symbols) (sym step.defined_is) h.symbols;
       top = subst (AreSaid b.file.top) (sym (outside_none before c (is_inside before) empty)) h.top;
       starts = λ n. ap (λ t. t || list_any (starts n) before) (step.starts_none n) ∙ h.starts n;
@@ -72,9 +72,9 @@ kept_case None item h k = tt
 kept_case (Some o) item h k = kept_push o.items.items item h k
 
 -- a command that says one thing
-pub item_built : (before : List Placed) (b b' : Builder) (at : ℕ) (what : Command) (w : What) (item : Item) (scale : Scale) → IsBuilt before b → is_bare what ≡ true → scale ≡ scale_in (opening_of b.open) → IsSaidBy (Some w) (said b.layer scale what) → item.pos ≡ at → item.what ≡ w → IsKept w
+pub item_built : (before : List Placed) (b b' : Builder) (at : ℕ) (what : Command) (w : What) (item : Item) (scale : Scale) → IsBuilt before b → is_bare what ≡ true → scale ≡ scale_in (opening_of b.definition) → IsSaidBy (Some w) (said b.layer scale what) → item.pos ≡ at → item.what ≡ w → IsKept w
     → b'.layer ≡ b.layer → b'.outer ≡ b.outer
-    → opening_of b'.open ≡ opening_of b.open → items_in b'.open ≡ grown_in b.open item → b'.file.symbols ≡ b.file.symbols → b'.file.top ≡ grown_outside b.open b.file.top item
+    → opening_of b'.definition ≡ opening_of b.definition → items_in b'.definition ≡ grown_in b.definition item → b'.file.symbols ≡ b.file.symbols → b'.file.top ≡ grown_outside b.definition b.file.top item
     → IsBuilt (record { at = at; what = what } ∷ before) b'
 item_built before b b' at what w item scale h bare e s place is kept same_layer same_outer same_open grown same_symbols grown_top =
     let c : Placed = record { at = at; what = what } in
@@ -90,15 +90,15 @@ item_built before b b' at what w item scale h bare e s place is kept same_layer 
       outer = same_outer ∙ h.outer ∙ sym step.around_is;
       opening = same_open ∙ h.opening ∙ sym step.open_is;
       inside = λ t.
-          subst (AreSaid (items_in b'.open)) (sym (step.since_is ∙ ap (λ r. said_since before ++ r) only))
-          (subst (λ r. AreSaid r (said_since before ++ remark ∷ [])) (sym grown) (inside_case b.open (said_since before) item remark (ap is_some (sym same_open) ∙ t) h.inside (λ items a. push items (said_since before) a)));
+          subst (AreSaid (items_in b'.definition)) (sym (step.since_is ∙ ap (λ r. said_since before ++ r) only))
+          (subst (λ r. AreSaid r (said_since before ++ remark ∷ [])) (sym grown) (inside_case b.definition (said_since before) item remark (ap is_some (sym same_open) ∙ t) h.inside (λ items a. push items (said_since before) a)));
       symbols = subst (AreDefined b'.file.symbols) (sym step.defined_is) (subst (λ r. AreDefined r (definitions before)) (sym same_symbols) h.symbols);
-      top = subst (λ r. AreSaid r (said_outside (c ∷ before))) (sym grown_top) (outside_case b.open before c b.file.top item remark (built_inside before b h) h.top only (push b.file.top (said_outside before) h.top));
+      top = subst (λ r. AreSaid r (said_outside (c ∷ before))) (sym grown_top) (outside_case b.definition before c b.file.top item remark (built_inside before b h) h.top only (push b.file.top (said_outside before) h.top));
       starts = λ n. ap (λ t. t || list_any (starts n) before) (step.starts_none n) ∙ h.starts n ∙ λ i. list_any (has_number n) (sym same_symbols i) || opens n (sym same_open i);
       sound = record {
         positive = subst (λ (o : Option Opening). 0 < (scale_in o).b) (sym same_open) h.sound.positive;
         another = λ o is. subst (λ r. list_any (has_number o.symbol) r ≡ false) (sym same_symbols) (h.sound.another o (sym same_open ∙ is));
-        kept = subst AreKept (sym grown) (kept_case b.open item h.sound.kept (subst IsKept (sym is) kept));
+        kept = subst AreKept (sym grown) (kept_case b.definition item h.sound.kept (subst IsKept (sym is) kept));
       };
     }
 
@@ -111,14 +111,14 @@ clash_some o e = cc
 
 -- ---- `L`
 
-pub layer_built : (before : List Placed) (b b' : Builder) (at : ℕ) (name : List ℕ) → IsBuilt before b → b'.layer ≡ Some name → b'.outer ≡ b.outer → b'.open ≡ b.open → b'.file ≡ b.file → IsBuilt (record { at = at; what = layer name } ∷ before) b'
+pub layer_built : (before : List Placed) (b b' : Builder) (at : ℕ) (name : List ℕ) → IsBuilt before b → b'.layer ≡ Some name → b'.outer ≡ b.outer → b'.definition ≡ b.definition → b'.file ≡ b.file → IsBuilt (record { at = at; what = layer name } ∷ before) b'
 layer_built before b b' at name h named same_outer same_open same_file =
     let c : Placed = record { at = at; what = layer name } in
     record {
       layer = named;
       outer = same_outer ∙ h.outer;
       opening = ap opening_of same_open ∙ h.opening;
-      inside = λ t. subst (λ (r : Option Open). AreSaid (items_in r) (said_since (c ∷ before))) (sym same_open) (subst (AreSaid (items_in b.open)) (sym (append-nil (said_since before))) (h.inside (ap (λ (r : Option Open). is_some (opening_of r)) (sym same_open) ∙ t)));
+      inside = λ t. subst (λ (r : Option Open). AreSaid (items_in r) (said_since (c ∷ before))) (sym same_open) (subst (AreSaid (items_in b.definition)) (sym (append-nil (said_since before))) (h.inside (ap (λ (r : Option Open). is_some (opening_of r)) (sym same_open) ∙ t)));
       symbols = subst (λ (f : Contents). AreDefined f.symbols (definitions before)) (sym same_file) h.symbols;
       top = subst (λ (f : Contents). AreSaid f.top (said_outside (c ∷ before))) (sym same_file) (subst (AreSaid b.file.top) (sym (outside_none before c (is_inside before) refl)) h.top);
       starts = λ n. h.starts n ∙ λ i. list_any (has_number n) (sym same_file i).symbols || opens n (opening_of (sym same_open i));
@@ -160,14 +160,14 @@ some_opening : (o p : Opening) → Some o ≡ Some p → o ≡ p
 some_opening o p h = cc
 
 pub start_built : (before : List Placed) (b b' : Builder) (at : ℕ) (n : Number) (s : Option (Number × Number)) → IsBuilt before b → may_stand before (start n s) ≡ true → fault_of before (record { at = at; what = start n s }) ≡ None
-    → b'.layer ≡ None → b'.outer ≡ b.layer → opening_of b'.open ≡ Some (record { at = at; symbol = n.value; scale = scale_of s }) → items_in b'.open ≡ [] → b'.file ≡ b.file
+    → b'.layer ≡ None → b'.outer ≡ b.layer → opening_of b'.definition ≡ Some (record { at = at; symbol = n.value; scale = scale_of s }) → items_in b'.definition ≡ [] → b'.file ≡ b.file
     → IsBuilt (record { at = at; what = start n s } ∷ before) b'
 start_built before b b' at n s h may fine no_layer old_layer opened empty same_file =
     let c : Placed = record { at = at; what = start n s } in
     let f = faultless (layer_behind before) (scale_behind before) (is_twice before (start n s)) c fine in
     let outside : is_inside before ≡ false = not_back (is_inside before) may in
-    let closed : is_some (opening_of b.open) ≡ false = sym (built_inside before b h) ∙ outside in
-    let known = λ (m : ℕ). h.starts m ∙ or_none (list_any (has_number m) b.file.symbols) (opens m (opening_of b.open)) (none_open (opening_of b.open) m closed) in
+    let closed : is_some (opening_of b.definition) ≡ false = sym (built_inside before b h) ∙ outside in
+    let known = λ (m : ℕ). h.starts m ∙ or_none (list_any (has_number m) b.file.symbols) (opens m (opening_of b.definition)) (none_open (opening_of b.definition) m closed) in
     record {
       layer = no_layer;
       outer = old_layer ∙ h.layer;
@@ -200,7 +200,7 @@ closed_numbers (Some o) items before after n closed =
     ∙ ap (λ t. list_any (has_number n) before || t) (or_none (n == closed.0.number) false refl ∙ ap (λ m. n == m) closed.1))
 
 pub finish_built : (before : List Placed) (b b' : Builder) (at : ℕ) → IsBuilt before b
-    → b'.layer ≡ b.outer → b'.outer ≡ b.outer → opening_of b'.open ≡ None → b'.file.top ≡ b.file.top → IsClosed (opening_of b.open) (items_in b.open) b.file.symbols b'.file.symbols → items_in b'.open ≡ []
+    → b'.layer ≡ b.outer → b'.outer ≡ b.outer → opening_of b'.definition ≡ None → b'.file.top ≡ b.file.top → IsClosed (opening_of b.definition) (items_in b.definition) b.file.symbols b'.file.symbols → items_in b'.definition ≡ []
     → IsBuilt (record { at = at; what = finish } ∷ before) b'
 finish_built before b b' at h old_layer same_outer none same_top closed empty =
     let c : Placed = record { at = at; what = finish } in
@@ -208,10 +208,10 @@ finish_built before b b' at h old_layer same_outer none same_top closed empty =
       layer = old_layer ∙ h.outer;
       outer = same_outer ∙ h.outer;
       opening = none;
-      inside = λ t. absurd (clash (opening_of b'.open) none t);
-      symbols = closed_defined b.open b.file.symbols b'.file.symbols before h.opening h.inside h.symbols closed;
+      inside = λ t. absurd (clash (opening_of b'.definition) none t);
+      symbols = closed_defined b.definition b.file.symbols b'.file.symbols before h.opening h.inside h.symbols closed;
       top = subst (λ r. AreSaid r (said_outside (c ∷ before))) (sym same_top) (subst (AreSaid b.file.top) (sym (outside_none before c (is_inside before) refl)) h.top);
-      starts = λ n. h.starts n ∙ closed_numbers (opening_of b.open) (items_in b.open) b.file.symbols b'.file.symbols n closed ∙ ap (λ r. list_any (has_number n) b'.file.symbols || opens n r) (sym none);
+      starts = λ n. h.starts n ∙ closed_numbers (opening_of b.definition) (items_in b.definition) b.file.symbols b'.file.symbols n closed ∙ ap (λ r. list_any (has_number n) b'.file.symbols || opens n r) (sym none);
       sound = record {
         positive = subst (λ (o : Option Opening). 0 < (scale_in o).b) (sym none) (omega arith);
         another = λ o is. absurd (clash_some o (sym none ∙ is));
@@ -240,7 +240,7 @@ judged_case : (current : Option (List ℕ)) (s : Scale) (t u : Bool) (c : Placed
 judged_case current s t u c None e h = ap (λ v. fault_in current s v c) (h refl)
 judged_case current s t u c (Some n) e h = first_large _ _ (large_number c.what) n e
 
-pub judged : (before : List Placed) (b : Builder) (at : ℕ) (what : Command) (scale : Scale) (t : Bool) → IsBuilt before b → scale ≡ scale_in (opening_of b.open) → (large_number what ≡ None → t ≡ is_twice before what) → fault_in b.layer scale t (record { at = at; what = what }) ≡ fault_of before (record { at = at; what = what })
+pub judged : (before : List Placed) (b : Builder) (at : ℕ) (what : Command) (scale : Scale) (t : Bool) → IsBuilt before b → scale ≡ scale_in (opening_of b.definition) → (large_number what ≡ None → t ≡ is_twice before what) → fault_in b.layer scale t (record { at = at; what = what }) ≡ fault_of before (record { at = at; what = what })
 judged before b at what scale t h e same =
     let c : Placed = record { at = at; what = what } in
     (λ i. fault_in (h.layer i) ((e ∙ ap scale_in h.opening) i) t c)

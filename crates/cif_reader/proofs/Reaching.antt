@@ -43,14 +43,14 @@ stood_case before inside total rest c next (Some x) e i h =
       may = may_stand_is before inside c i ∙ ap (λ (y : Command × List ℕ). may_stand_in inside y.0) (sym s.1) ∙ s.0;
     }
 
-stood : (text rest : List ℕ) (b : Builder) (c : Command) (next : List ℕ) (r : Reached text rest b) → standing_at (is_some (opening_of b.open)) (length text) rest ≡ Some (c, next) → Stood r.commands (length text) rest c next
+stood : (text rest : List ℕ) (b : Builder) (c : Command) (next : List ℕ) (r : Reached text rest b) → standing_at (is_some (opening_of b.definition)) (length text) rest ≡ Some (c, next) → Stood r.commands (length text) rest c next
 unfolding standing_at
-stood text rest b c next r h = stood_case r.commands (is_some (opening_of b.open)) (length text) rest c next (command_at (length text) rest) refl (built_inside r.commands b r.built) h
+stood text rest b c next r h = stood_case r.commands (is_some (opening_of b.definition)) (length text) rest c next (command_at (length text) rest) refl (built_inside r.commands b r.built) h
 
 placed : List ℕ → List ℕ → Command → Placed
 placed text rest c = record { at = length text - length rest; what = c }
 
-pub goes_on : (text rest : List ℕ) (b b' : Builder) (c : Command) (next : List ℕ) (r : Reached text rest b) → standing_at (is_some (opening_of b.open)) (length text) rest ≡ Some (c, next) → fault_of r.commands (record { at = length text - length rest; what = c }) ≡ None → IsBuilt (record { at = length text - length rest; what = c } ∷ r.commands) b' → Reached text next b'
+pub goes_on : (text rest : List ℕ) (b b' : Builder) (c : Command) (next : List ℕ) (r : Reached text rest b) → standing_at (is_some (opening_of b.definition)) (length text) rest ≡ Some (c, next) → fault_of r.commands (record { at = length text - length rest; what = c }) ≡ None → IsBuilt (record { at = length text - length rest; what = c } ∷ r.commands) b' → Reached text next b'
 goes_on text rest b b' c next r h fine built =
     let s = stood text rest b c next r h in
     record {
@@ -67,16 +67,16 @@ rest_within text rest b r =
     let t = walk_takes r.count (length text) text r.commands rest refl r.walked in
     omega (arith, ap length t.whole, length-append t.front rest)
 
-pub gets_shorter : (text rest : List ℕ) (b : Builder) (c : Command) (next : List ℕ) (r : Reached text rest b) → standing_at (is_some (opening_of b.open)) (length text) rest ≡ Some (c, next) → length next < length rest
+pub gets_shorter : (text rest : List ℕ) (b : Builder) (c : Command) (next : List ℕ) (r : Reached text rest b) → standing_at (is_some (opening_of b.definition)) (length text) rest ≡ Some (c, next) → length next < length rest
 gets_shorter text rest b c next r h =
     let s = stood text rest b c next r h in
     command_shorter (length text) (length text - length rest) rest c next (omega (arith, rest_within text rest b r)) s.read
 
-pub stands_may : (text rest : List ℕ) (b : Builder) (c : Command) (next : List ℕ) (r : Reached text rest b) → standing_at (is_some (opening_of b.open)) (length text) rest ≡ Some (c, next) → may_stand r.commands c ≡ true
+pub stands_may : (text rest : List ℕ) (b : Builder) (c : Command) (next : List ℕ) (r : Reached text rest b) → standing_at (is_some (opening_of b.definition)) (length text) rest ≡ Some (c, next) → may_stand r.commands c ≡ true
 stands_may text rest b c next r h = (stood text rest b c next r h).may
 
 -- A command is at fault.
-pub fault_here : (text rest : List ℕ) (b : Builder) (c : Command) (next : List ℕ) (fault : CifRefusal) (r : Reached text rest b) → standing_at (is_some (opening_of b.open)) (length text) rest ≡ Some (c, next) → fault_of r.commands (record { at = length text - length rest; what = c }) ≡ Some fault → Refuses text fault
+pub fault_here : (text rest : List ℕ) (b : Builder) (c : Command) (next : List ℕ) (fault : CifRefusal) (r : Reached text rest b) → standing_at (is_some (opening_of b.definition)) (length text) rest ≡ Some (c, next) → fault_of r.commands (record { at = length text - length rest; what = c }) ≡ Some fault → Refuses text fault
 fault_here text rest b c next fault r h is =
     let s = stood text rest b c next r h in
     let t = walk_takes (suc r.count) (length text) text (record { at = length text - length rest; what = c } ∷ r.commands) next refl (walk_more r.count (length text) text r.commands rest c next r.walked s.read s.may) in
@@ -92,12 +92,12 @@ stuck_case : (text rest : List ℕ) (b : Builder) (r : Reached text rest b) (ins
 stuck_case text rest b r inside None e i h = stuck_none r.count (length text) text r.commands rest r.walked e
 stuck_case text rest b r inside (Some x) e i h = stuck_barred r.count (length text) text r.commands rest x.0 x.1 r.walked e (may_stand_is r.commands inside x.0 i ∙ barred_if (may_stand_in inside x.0) x h)
 
-stuck : (text rest : List ℕ) (b : Builder) (r : Reached text rest b) → standing_at (is_some (opening_of b.open)) (length text) rest ≡ None → walk (suc r.count) (length text) text ≡ None
+stuck : (text rest : List ℕ) (b : Builder) (r : Reached text rest b) → standing_at (is_some (opening_of b.definition)) (length text) rest ≡ None → walk (suc r.count) (length text) text ≡ None
 unfolding standing_at
-stuck text rest b r h = stuck_case text rest b r (is_some (opening_of b.open)) (command_at (length text) rest) refl (built_inside r.commands b r.built) h
+stuck text rest b r h = stuck_case text rest b r (is_some (opening_of b.definition)) (command_at (length text) rest) refl (built_inside r.commands b r.built) h
 
 -- Something that isn't the end stands behind the last command.
-pub fault_behind : (text rest : List ℕ) (b : Builder) (fault : CifRefusal) (r : Reached text rest b) → standing_at (is_some (opening_of b.open)) (length text) rest ≡ None → end_fault (is_some (opening_of b.open)) (length text - length rest) rest ≡ Some fault → Refuses text fault
+pub fault_behind : (text rest : List ℕ) (b : Builder) (fault : CifRefusal) (r : Reached text rest b) → standing_at (is_some (opening_of b.definition)) (length text) rest ≡ None → end_fault (is_some (opening_of b.definition)) (length text - length rest) rest ≡ Some fault → Refuses text fault
 fault_behind text rest b fault r none is =
     let t = walk_takes r.count (length text) text r.commands rest refl r.walked in
     let size : length text - length rest ≡ length t.front = omega (arith, ap length t.whole, length-append t.front rest) in
@@ -136,10 +136,10 @@ ended inside at (b ∷ bs) h =
     let parts = both_parts (b == 69) inside (first_test (b == 69 && not inside) _ h (some_fault (b == 82) (b == 68 && is_delete bs) _ _ _)) in
     record { more = bs; outside = parts.1; is = ap (λ c. c ∷ bs) (eqb-true b 69 parts.0) }
 
-pub accepted_here : (text rest : List ℕ) (b : Builder) → Reached text rest b → end_fault (is_some (opening_of b.open)) (length text - length rest) rest ≡ None → Accepts text b.file
+pub accepted_here : (text rest : List ℕ) (b : Builder) → Reached text rest b → end_fault (is_some (opening_of b.definition)) (length text - length rest) rest ≡ None → Accepts text b.file
 accepted_here text rest b r is =
     let t = walk_takes r.count (length text) text r.commands rest refl r.walked in
-    let e = ended (is_some (opening_of b.open)) (length text - length rest) rest is in
+    let e = ended (is_some (opening_of b.definition)) (length text - length rest) rest is in
     record {
       commands = r.commands;
       spelled = record { front = t.front; rest = e.more; items = t.spelled; outside = built_inside r.commands b r.built ∙ e.outside; whole = t.whole ∙ ap (λ s. t.front ++ s) e.is };
@@ -148,6 +148,6 @@ accepted_here text rest b r is =
       top = r.built.top;
     }
 
-pub fine_here : (text rest : List ℕ) (b : Builder) (c : Command) (r : Reached text rest b) → fault_of r.commands (record { at = length text - length rest; what = c }) ≡ None → IsFine (scale_in (opening_of b.open)) c
+pub fine_here : (text rest : List ℕ) (b : Builder) (c : Command) (r : Reached text rest b) → fault_of r.commands (record { at = length text - length rest; what = c }) ≡ None → IsFine (scale_in (opening_of b.definition)) c
 fine_here text rest b c r h =
     subst (λ o. IsFine (scale_in o) c) (sym r.built.opening) (faultless (layer_behind r.commands) (scale_behind r.commands) (is_twice r.commands c) (record { at = length text - length rest; what = c }) h).fine

@@ -105,7 +105,7 @@ pub inside_is : (before : List Placed) → is_inside before ≡ is_some (open_be
 inside_is [] = refl
 inside_is (c ∷ before) = inside_at before c.at c.what (inside_is before)
 
-pub built_inside : (before : List Placed) (b : Builder) → IsBuilt before b → is_inside before ≡ is_some (opening_of b.open)
+pub built_inside : (before : List Placed) (b : Builder) → IsBuilt before b → is_inside before ≡ is_some (opening_of b.definition)
 built_inside before b h = inside_is before ∙ ap is_some (sym h.opening)
 
 pub may_stand_is : (before : List Placed) (inside : Bool) (c : Command) → is_inside before ≡ inside → may_stand before c ≡ may_stand_in inside c

@@ -85,19 +85,19 @@ IsClosed (Some o) items before after = (symbol : Symbol) × (symbol.number ≡ o
 
 -- What the state keeps by itself.
 pub record IsSound (b : Builder) : Type 0 where
-  pub positive : 0 < (scale_in (opening_of b.open)).b
-  pub another : (o : Opening) → opening_of b.open ≡ Some o → list_any (has_number o.symbol) b.file.symbols ≡ false
-  pub kept : AreKept (items_in b.open)
+  pub positive : 0 < (scale_in (opening_of b.definition)).b
+  pub another : (o : Opening) → opening_of b.definition ≡ Some o → list_any (has_number o.symbol) b.file.symbols ≡ false
+  pub kept : AreKept (items_in b.definition)
 
 -- The state is that behind these commands, the latest first.
 pub record IsBuilt (before : List Placed) (b : Builder) : Type 0 where
   pub layer : b.layer ≡ layer_behind before
   pub outer : b.outer ≡ layer_around before
-  pub opening : opening_of b.open ≡ open_behind before
-  pub inside : is_some (opening_of b.open) ≡ true → AreSaid (items_in b.open) (said_since before)
+  pub opening : opening_of b.definition ≡ open_behind before
+  pub inside : is_some (opening_of b.definition) ≡ true → AreSaid (items_in b.definition) (said_since before)
   pub symbols : AreDefined b.file.symbols (definitions before)
   pub top : AreSaid b.file.top (said_outside before)
-  pub starts : (n : ℕ) → list_any (starts n) before ≡ (list_any (has_number n) b.file.symbols || opens n (opening_of b.open))
+  pub starts : (n : ℕ) → list_any (starts n) before ≡ (list_any (has_number n) b.file.symbols || opens n (opening_of b.definition))
   pub sound : IsSound b
 
 -- It is no `L`, no `DS` and no `DF`.

@@ -163,7 +163,8 @@ pub(crate) struct Builder {
     pub layer: Option<Short>,
     /// The layer from before the last start.
     pub outer: Option<Short>,
-    pub open: Option<Open>,
+    /// The definition that is open, if one is.
+    pub definition: Option<Open>,
     pub file: CifFile,
 }
 
@@ -190,37 +191,37 @@ impl Builder {
         Builder {
             layer: None,
             outer: None,
-            open: None,
+            definition: None,
             file: CifFile::empty(alloc),
         }
     }
 
     /// Whether a definition is open.
     pub(crate) fn is_inside(&self) -> bool
-        ensures { result ≡ is_some (opening_of self.now.open) }
+        ensures { result ≡ is_some (opening_of self.now.definition) }
     {
-        self.open.is_some()
+        self.definition.is_some()
     }
 
     /// The scale of the open definition.
     pub(crate) fn scale(&self) -> Scale
-        ensures { result ≡ scale_in (opening_of self.now.open) }
+        ensures { result ≡ scale_in (opening_of self.now.definition) }
     {
-        match &self.open {
-            Some(open) => open.scale,
+        match &self.definition {
+            Some(definition) => definition.scale,
             None => PLAIN,
         }
     }
 
     /// Whether a symbol of that number is defined or open.
     fn is_known(&self, number: u32) -> bool
-        ensures { result ≡ (list_any (has_number number) self.now.file.symbols || opens number (opening_of self.now.open)) }
+        ensures { result ≡ (list_any (has_number number) self.now.file.symbols || opens number (opening_of self.now.definition)) }
     {
         if self.file.is_defined(number) {
             return true;
         }
-        match &self.open {
-            Some(open) => number == open.number,
+        match &self.definition {
+            Some(definition) => number == definition.number,
             None => false,
         }
     }
@@ -229,13 +230,13 @@ impl Builder {
     fn start(&mut self, alloc: Global, pos: u64, number: u32, scale: Scale)
         ensures layer { self.new.layer ≡ None }
         ensures outer { self.new.outer ≡ self.old.layer }
-        ensures opening { opening_of self.new.open ≡ Some (record { at = pos; symbol = number; scale = scale }) }
-        ensures items { items_in self.new.open ≡ [] }
+        ensures opening { opening_of self.new.definition ≡ Some (record { at = pos; symbol = number; scale = scale }) }
+        ensures items { items_in self.new.definition ≡ [] }
         ensures file { self.new.file ≡ self.old.file }
     {
         self.outer = self.layer;
         self.layer = None;
-        self.open = Some(Open {
+        self.definition = Some(Open {
             number,
             pos,
             scale,
@@ -248,18 +249,18 @@ impl Builder {
         requires { IsSound self.old }
         ensures layer { OnOk result (self.new.layer ≡ self.old.outer) }
         ensures outer { OnOk result (self.new.outer ≡ self.old.outer) }
-        ensures opening { OnOk result (opening_of self.new.open ≡ None) }
+        ensures opening { OnOk result (opening_of self.new.definition ≡ None) }
         ensures top { OnOk result (self.new.file.top ≡ self.old.file.top) }
-        ensures symbols { OnOk result (IsClosed (opening_of self.old.open) (items_in self.old.open) self.old.file.symbols self.new.file.symbols) }
+        ensures symbols { OnOk result (IsClosed (opening_of self.old.definition) (items_in self.old.definition) self.old.file.symbols self.new.file.symbols) }
     {
         self.layer = self.outer;
-        let Some(open) = self.open.take() else {
+        let Some(definition) = self.definition.take() else {
             return Ok(());
         };
         self.file.define(Symbol {
-            number: open.number,
-            pos: open.pos,
-            items: open.items,
+            number: definition.number,
+            pos: definition.pos,
+            items: definition.items,
         })
     }
 
@@ -268,14 +269,14 @@ impl Builder {
         requires { IsKept item.what }
         ensures layer { self.new.layer ≡ self.old.layer }
         ensures outer { self.new.outer ≡ self.old.outer }
-        ensures opening { OnOk result (opening_of self.new.open ≡ opening_of self.old.open) }
-        ensures inside { OnOk result (items_in self.new.open ≡ grown_in self.old.open item) }
+        ensures opening { OnOk result (opening_of self.new.definition ≡ opening_of self.old.definition) }
+        ensures inside { OnOk result (items_in self.new.definition ≡ grown_in self.old.definition item) }
         ensures symbols { OnOk result (self.new.file.symbols ≡ self.old.file.symbols) }
-        ensures top { OnOk result (self.new.file.top ≡ grown_outside self.old.open self.old.file.top item) }
+        ensures top { OnOk result (self.new.file.top ≡ grown_outside self.old.definition self.old.file.top item) }
     {
-        match &mut self.open {
-            Some(open) => {
-                open.items.push(item)?;
+        match &mut self.definition {
+            Some(definition) => {
+                definition.items.push(item)?;
                 Ok(())
             }
             None => self.file.add_top(item),
@@ -284,7 +285,7 @@ impl Builder {
 
     /// Whether the command may stand here: a definition starts outside of one, and finishes inside.
     pub(crate) fn may_stand(&self, command: &Command<'_>) -> bool
-        ensures { result ≡ may_stand_in (is_some (opening_of self.now.open)) (seen command.now) }
+        ensures { result ≡ may_stand_in (is_some (opening_of self.now.definition)) (seen command.now) }
     {
         match command {
             Command::Start { .. } => !self.is_inside(),
@@ -296,7 +297,7 @@ impl Builder {
     /// Adds what a command other than `L`, `DS` and `DF` says.
     fn say(&mut self, alloc: Global, pos: u64, command: &Command<'_>) -> Result<(), AllocError>
         requires sound { IsSound self.old }
-        requires fine { IsFine (scale_in (opening_of self.old.open)) (seen command.now) }
+        requires fine { IsFine (scale_in (opening_of self.old.definition)) (seen command.now) }
         ensures { (before : List Placed) → IsBuilt before self.old → is_bare (seen command.now) ≡ true → OnOk result (IsBuilt (record { at = pos; what = seen command.now } ∷ before) self.new) }
     {
         let scale = self.scale();
@@ -314,7 +315,7 @@ impl Builder {
         command: Command<'_>,
     ) -> Result<(), AllocError>
         requires sound { IsSound self.old }
-        requires fine { IsFine (scale_in (opening_of self.old.open)) (seen command) }
+        requires fine { IsFine (scale_in (opening_of self.old.definition)) (seen command) }
         ensures { (before : List Placed) → IsBuilt before self.old → may_stand before (seen command.entry) ≡ true → fault_of before (record { at = pos; what = seen command.entry }) ≡ None → OnOk result (IsBuilt (record { at = pos; what = seen command.entry } ∷ before) self.new) }
     {
         match command {

@@ -45,7 +45,7 @@ fn next_standing<'a>(
     total: usize,
     bytes: &'a [u8],
 ) -> Result<Option<(Command<'a>, &'a [u8])>, AllocError>
-    ensures { IfOk result (λ found. option_map (λ x. (seen x.0, x.1.now)) found ≡ standing_at (is_some (opening_of builder.now.open)) total bytes.now) }
+    ensures { IfOk result (λ found. option_map (λ x. (seen x.0, x.1.now)) found ≡ standing_at (is_some (opening_of builder.now.definition)) total bytes.now) }
 {
     let Some((command, rest)) = next_command(alloc, total, bytes)? else {
         return Ok(None);

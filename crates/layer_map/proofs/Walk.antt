@@ -125,19 +125,19 @@ pub data Outcome : Type 0 where
   accepts : Plan → Outcome
   refuses : MapRefusal → Outcome
 
-ending : Option MapRefusal → Plan → Outcome
+unfoldable pub ending : Option MapRefusal → Plan → Outcome
 ending None plan = accepts plan
 ending (Some fault) plan = refuses fault
 
-judged : Option MapRefusal → Outcome → Outcome
+unfoldable pub judged : Option MapRefusal → Outcome → Outcome
 judged None next = next
 judged (Some fault) next = refuses fault
 
-after : Option Statement → List Statement → (List Statement → Outcome) → Outcome
+unfoldable pub after : Option Statement → List Statement → (List Statement → Outcome) → Outcome
 after None said next = refuses (BadLine (length said + 1))
 after (Some s) said next = judged (fault_in (length said + 1) (map_of said) s) (next (s ∷ said))
 
-answer : List (List ℕ) → List Statement → Outcome
+unfoldable pub answer : List (List ℕ) → List Statement → Outcome
 answer [] said = ending (supply_fault said) (map_of said)
 answer (line ∷ lines) said = after (said_at line) said (answer lines)
 

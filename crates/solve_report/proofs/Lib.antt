@@ -1,3 +1,4 @@
+mod Worked
 mod Texts
 mod Printed
 mod Sorted

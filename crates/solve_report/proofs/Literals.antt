@@ -5,7 +5,7 @@ use Rattle.std.proofs.lemmas.List.{get_or_default}
 use Rattle.probe_io.specs.Written.{Appends, AppendsFront}
 use Rattle.proof_sinks.specs.Text.{literal_text}
 use Rattle.solve_report.specs.Report.{literal_of, true_literals}
-use Rattle.solve_report.proofs.Texts.{Front-is, Whole-is, AppendsFront-text, Appends-text, Appends-texts}
+use Rattle.probe_io.proofs.Texts.{Front-is, Whole-is, AppendsFront-text, Appends-text, Appends-texts}
 
 abbrev literals_from : ℕ → List Bool → List ℤ
 literals_from n values = map (λ at. literal_of at.0 at.1) (enumerate_from n values)

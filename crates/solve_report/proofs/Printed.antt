@@ -1,39 +1,29 @@
 -- A printer of lines: what was written, and the text before it.
 use Rattle.std.proofs.Common.{◌≡◌, ℕ, ◌+◌, Bool, true, false, ◌&&◌, List, [], ◌∷◌, ◌++◌, length, Option, Result, Ok, Err, OnOk, OnErr, refl, sym, ◌∙◌, ap, subst, append_assoc, arith}
 use Rattle.std.specs.Result.{is_err}
-use Rattle.std.proofs.lemmas.List.{append-nil}
 use Rattle.probe_io.specs.Written.{Appends, AppendsFront}
 use Rattle.probe_io.proofs.WrittenLemmas.{Appends-then, Appends-front, AppendsFront-whole}
 use Rattle.proof_sinks.specs.declared.lines.Said.{Said}
-use Rattle.proof_sinks.specs.Text.{line_text, lines_text, text_of}
+use Rattle.proof_sinks.specs.Text.{line_text, text_of}
+use Rattle.proof_sinks.proofs.LineTexts.{text_more}
 use Rattle.solve_report.specs.Printing.{ArePrinted}
-use Rattle.solve_report.proofs.Texts.{Front-is, Whole-is}
-
-lines_text-more : (n : ℕ) (said : List Said) (line : Said) → lines_text n (said ++ line ∷ []) ≡ lines_text n said ++ line_text (n + length said) line
-lines_text-more n [] line = let same : n ≡ n + 0 = omega arith in append-nil (line_text n line) ∙ ap (λ k. line_text k line) same
-lines_text-more n (first ∷ said) line =
-    let same : (n + 1) + length said ≡ n + length (first ∷ said) = omega arith in
-    ap (λ l. line_text n first ++ l) (lines_text-more (n + 1) said line)
-    ∙ sym (append_assoc (line_text n first) (lines_text (n + 1) said) (line_text ((n + 1) + length said) line))
-    ∙ ap (λ k. (line_text n first ++ lines_text (n + 1) said) ++ line_text k line) same
+use Rattle.probe_io.proofs.Texts.{Front-is, Whole-is}
 
 -- the text with one line more
-text_more : (said lines : List Said) (line : Said) → lines ≡ said ++ line ∷ [] → text_of said ++ line_text (length said + 1) line ≡ text_of lines
-text_more said lines line more =
-    let same : length said + 1 ≡ 1 + length said = omega arith in
-    ap (λ k. text_of said ++ line_text k line) same ∙ sym (lines_text-more 1 said line) ∙ ap (λ l. text_of l) (sym more)
+line_more : (said lines : List Said) (line : Said) → lines ≡ said ++ line ∷ [] → text_of said ++ line_text (length said + 1) line ≡ text_of lines
+line_more said lines line more = sym (text_more said line) ∙ ap (λ l. text_of l) (sym more)
 
 -- one line more, all of which was written
 pub printed_whole : {start old new : Option (List ℕ)} (said lines : List Said) (line : Said) → ArePrinted start old said true → lines ≡ said ++ line ∷ [] → Appends old new (line_text (length said + 1) line) → ArePrinted start new lines true
 printed_whole said lines line printed more next =
-    let all = Whole-is (text_more said lines line more) (Appends-then (printed.text refl) next) in
+    let all = Whole-is (line_more said lines line more) (Appends-then (printed.text refl) next) in
     record { text = λ whole. all; front = AppendsFront-whole all }
 
 -- one line more, of which a front was written
 pub printed_front : {start old new : Option (List ℕ)} (said lines : List Said) (line : Said) → ArePrinted start old said true → lines ≡ said ++ line ∷ [] → AppendsFront old new (line_text (length said + 1) line) → ArePrinted start new lines false
 printed_front said lines line printed more next = record {
   text = λ whole. absurd cc;
-  front = Front-is (text_more said lines line more) (Appends-front (printed.text refl) next);
+  front = Front-is (line_more said lines line more) (Appends-front (printed.text refl) next);
 }
 
 -- ---- the last call's answer

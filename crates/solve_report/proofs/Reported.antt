@@ -12,7 +12,7 @@ use Rattle.solve_report.specs.declared.ending.Ending.{Ending}
 use Rattle.solve_report.specs.Report.{header, verdict_line, ending_of, SolvesWhereValues, IsSortedForm, IsReport, WritesReport, AppendsReportFront}
 use Rattle.solve_report.specs.Printing.{WritesProof, WritesProofFront}
 use Rattle.solve_report.proofs.Sorted.{solves_file}
-use Rattle.solve_report.proofs.Texts.{Whole-is}
+use Rattle.probe_io.proofs.Texts.{Whole-is}
 
 solved : (file formula : Clauses) (budget : ℕ) (lines : List (List ℤ × List ℕ)) (verdict : Verdict) → IsSortedForm file formula → IsVerdict formula budget lines verdict → SolvesWhereValues file verdict
 solved file formula budget lines (Values values) sorted holds = solves_file file formula values.items sorted holds

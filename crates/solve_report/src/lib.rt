@@ -12,7 +12,6 @@ mod laws;
 mod printer;
 mod report;
 mod sorting;
-mod steps;
 mod verdict_line;
 
 pub use ending::{Ending, ReportFault};

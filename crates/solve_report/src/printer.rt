@@ -3,10 +3,9 @@
 ghost use Rattle.std.specs.Prelude.{◌≡◌, true, [], Some};
 ghost use Rattle.solve_report.specs.Printing.{ArePrinted, mark};
 
-use crate::steps::{put_derived, put_given};
 use clause_base::Lit;
 use probe_io::Sink;
-use proof_sinks::{ProofSink, StepFault, StepList};
+use proof_sinks::{ProofSink, StepFault, StepList, put_derived, put_given};
 use std::alloc::Global;
 use std::marker::Model;
 use std::snapshot::Snapshot;

@@ -1,7 +1,7 @@
 use Rattle.std.proofs.Common.{length}
 use Rattle.std.proofs.lemmas.Result.{on_ok_weaker, on_err_weaker}
 use Rattle.solve_report.specs.Report.{numbers_text}
-use Rattle.solve_report.proofs.Texts.{Front-is, Whole-is}
+use Rattle.probe_io.proofs.Texts.{Front-is, Whole-is}
 use Rattle.solve_report.proofs.header.put_header.Goals as goal
 
 pub returns-clause-ok : goal.returns-clause-ok

@@ -1,4 +1,4 @@
-use Rattle.std.proofs.Common.{arith}
+use Rattle.std.proofs.Common.{rules}
 use Rattle.probe_io.proofs.CauseLemmas.{on_err}
 use Rattle.solve_report.proofs.Literals.{literals_more, literals_front, literals_all}
 use Rattle.solve_report.proofs.verdict_line.put_literals.Goals as goal
@@ -9,7 +9,7 @@ returns-in_err-put_literal-clause-front g c = on_err _ (literals_front c.args.va
 pub loop-i-preserved : goal.loop-i-preserved
 loop-i-preserved g c = record {
   written = literals_more c.args.values.now c.loop-i.i _ c.loop-i-test.true c.loop-i.invariant.written c.in_ok-put_literal.ensures.ok;
-  later = omega (arith, c.loop-i.invariant.later, c.put_literal.ensures.cause.later);
+  quiet = search rules;
 }
 
 pub returns-clause-ok : goal.returns-clause-ok

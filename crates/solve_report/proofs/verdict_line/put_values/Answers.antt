@@ -3,7 +3,8 @@ use Rattle.std.specs.Prelude.{codes}
 use Rattle.probe_io.proofs.CauseLemmas.{on_err}
 use Rattle.proof_sinks.specs.Text.{literal_text}
 use Rattle.solve_report.specs.Report.{true_literals, values_line}
-use Rattle.solve_report.proofs.Texts.{Front-is, pieces_begin, pieces_more, pieces_front, closes, ok_closed, err_closed}
+use Rattle.probe_io.proofs.Texts.{Front-is, pieces_begin, pieces_more, pieces_front}
+use Rattle.solve_report.proofs.Texts.{closes, ok_closed, err_closed}
 use Rattle.solve_report.proofs.verdict_line.put_values.Goals as goal
 
 pub returns-in_err-put_all-clause-front : goal.returns-in_err-put_all-clause-front

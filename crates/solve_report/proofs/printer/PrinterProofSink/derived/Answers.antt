@@ -1,7 +1,7 @@
 use Rattle.std.proofs.Common.{ap, ◌∙◌, ◌+◌, length}
 use Rattle.proof_sinks.specs.declared.lines.Said.TheVariants.{Derived}
 use Rattle.proof_sinks.specs.Text.{derived_text}
-use Rattle.solve_report.proofs.Texts.{Front-is, Whole-is}
+use Rattle.probe_io.proofs.Texts.{Front-is, Whole-is}
 use Rattle.solve_report.proofs.Printed.{err_of, ok_of, printed_live, printed_whole, printed_front}
 use Rattle.solve_report.proofs.printer.PrinterProofSink.derived.Goals as goal
 

@@ -129,7 +129,7 @@ empty_clause s = not_true holds [] refl (s 0 [] (omega arith))
 -- ---- what is new, and what teaches
 
 -- the formula of two variables that has no solution
-pub square : List (List ℤ)
+unfoldable pub square : List (List ℤ)
 square = (pos 1 ∷ pos 2 ∷ []) ∷ (pos 1 ∷ negsuc 1 ∷ []) ∷ (negsuc 0 ∷ pos 2 ∷ []) ∷ (negsuc 0 ∷ negsuc 1 ∷ []) ∷ []
 
 nothing : ℤ → Bool
@@ -225,7 +225,7 @@ unfolding square with_three
 three_teaches_nothing h = no_superset square with_three h 0 [] (omega arith) (all (Contains with_three) (pos 1 ∷ pos 2 ∷ []) ((0, omega arith, refl), ((1, omega arith, refl), tt)))
 
 -- The same literals in another order are not new.
-turned : IsNew square (pos 2 ∷ pos 1 ∷ pos 2 ∷ []) → ⊥
+pub turned : IsNew square (pos 2 ∷ pos 1 ∷ pos 2 ∷ []) → ⊥
 unfolding square
 turned new = new.fresh 0 [] (omega arith) (same_by (pos 1 ∷ pos 2 ∷ []) (pos 2 ∷ pos 1 ∷ pos 2 ∷ []) refl refl)
 

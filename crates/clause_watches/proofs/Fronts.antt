@@ -7,9 +7,9 @@ use Rattle.std.proofs.lemmas.List.{take_all, take-append-le, length_push, get_or
 use Rattle.std.proofs.lemmas.List.Elements.{All-contains}
 use Rattle.clause_base.specs.Literals.{is_in}
 use Rattle.clause_base.specs.Teaching.{IsConsistent, IsPropagated}
-use Rattle.refutation_check.proofs.Soundness.{by_test, no_both}
+use Rattle.clause_base.proofs.LiteralLemmas.{by_test, no_both, in_contains}
 use Rattle.search_trail.specs.Trails.{Search, IsOnce, lit_at, start_at, front, front_size, with_implied}
-use Rattle.search_trail.proofs.Members.{in_from, in_contains, in_taken, in_further, in_pushed, take_at, at_take, lit_new}
+use Rattle.search_trail.proofs.Members.{in_from, in_taken, in_further, in_pushed, take_at, at_take, lit_new}
 use Rattle.clause_watches.specs.Listing.{IsOther}
 use Rattle.clause_watches.specs.Watching.{IsBacked, IsGuarded, IsTautology, IsKept}
 

@@ -2,3 +2,4 @@ mod Listings
 pub mod Fronts
 mod Visits
 pub mod Kept
+pub mod Worked

@@ -1,31 +1,12 @@
 -- The lists of literals: a clause more, and a clause that moves to another list.
-use Rattle.std.proofs.Common.{◌≡◌, ◌≢◌, ℕ, ◌+◌, ◌-◌, ◌*◌, ◌<◌, ◌≤◌, ◌⊎◌, inl, inr, ℤ, pos, negsuc, nat_abs, false, Option, Some, None, Result, Ok, Err, OnOk, OnErr, IfSome, List, [], ◌∷◌, ◌++◌, length, set, get_or, sym, ap, ◌∙◌, subst, arith}
+use Rattle.std.proofs.Common.{◌≡◌, ◌≢◌, ℕ, ◌+◌, ◌-◌, ◌<◌, ◌≤◌, ◌⊎◌, inl, inr, ℤ, Option, Some, None, Result, Ok, Err, OnOk, OnErr, IfSome, List, [], ◌∷◌, ◌++◌, length, set, get_or, sym, ap, ◌∙◌, subst, arith}
 use Rattle.std.specs.List.{Contains}
-use Rattle.std.specs.Ordering.{int_eq}
-use Rattle.std.proofs.lemmas.Int.{ints}
 use Rattle.std.proofs.lemmas.Bool.{cases_lt, cases_eq}
-use Rattle.std.proofs.lemmas.Bool.Decides.{nat_tests}
 use Rattle.std.proofs.lemmas.List.{length_push, get_or_append_left, get_or_push, get_or_past, get_or_default, get_or-set_same, get_or-set_other}
 use Rattle.std.proofs.lemmas.List.Elements.{Contains-get_or, Contains-append_left, Contains-push_cases}
-use Rattle.refutation_check.specs.Marking.{code_of}
-use Rattle.refutation_check.proofs.Soundness.{by_test, same_lit}
+use Rattle.clause_base.specs.Literals.{code_of}
+use Rattle.clause_base.proofs.LiteralLemmas.{by_lit, one_code}
 use Rattle.clause_watches.specs.Listing.{pair_of, list_of, AreListed, IsOther}
-
-pub one_code : (a b : ℤ) → code_of a ≡ code_of b → a ≡ b
-one_code (pos m) (pos n) same = ap pos (omega (arith, same))
-one_code (pos m) (negsuc n) same = absurd (omega (arith, same))
-one_code (negsuc m) (pos n) same = absurd (omega (arith, same))
-one_code (negsuc m) (negsuc n) same = ap negsuc (omega (arith, same))
-
-differ : (a b : ℤ) → int_eq a b ≡ false → a ≡ b → ⊥
-differ a b is e = grind (arith, ints, nat_tests, is, e)
-
-pub by_lit : {P : Type 0} (a b : ℤ) → (a ≡ b → P) → (a ≢ b → P) → P
-by_lit a b same other = by_test (int_eq a b) (λ is. same (same_lit a b is)) (λ is. other (λ e. differ a b is e))
-
-pub coded : (vars size : ℕ) (l : ℤ) → size ≡ vars * 2 + 2 → nat_abs l ≤ vars → code_of l < size
-coded vars size (pos n) is small = omega (arith, is, small)
-coded vars size (negsuc n) is small = omega (arith, is, small)
 
 pub code_inside : (lists : List (List ℕ)) (l : ℤ) (index : ℕ) → index < length (list_of lists l) → code_of l < length lists
 code_inside lists l index lt = elim (cases_lt (code_of l) (length lists)) [

@@ -1,6 +1,6 @@
 -- For each literal the clauses that are watched there. Clauses count from 1.
 use Rattle.std.specs.Prelude.{◌≡◌, ◌⊎◌, ℕ, ◌-◌, ◌<◌, ℤ, Option, Some, None, List, [], slice_index_or, Contains}
-use Rattle.refutation_check.specs.Marking.{code_of}
+use Rattle.clause_base.specs.Literals.{code_of}
 
 -- the two literals at which the clause of this number is watched, if any
 abbrev pub pair_of : List (Option (ℤ × ℤ)) → ℕ → Option (ℤ × ℤ)

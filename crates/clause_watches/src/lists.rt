@@ -1,7 +1,7 @@
 //! For each literal the clauses that are watched there.
 
 ghost use Rattle.std.specs.Prelude.{◌≡◌, ◌≢◌, ◌<◌, ◌≤◌, ◌+◌, ◌-◌, ◌*◌, ◌⊎◌, ℕ, ℤ, Some, None, [], ◌∷◌, ◌++◌, set, take, length, nat_abs, slice_index_or, OnOk, OnErr, IfOk, IfSome, OnSome, Contains};
-ghost use Rattle.refutation_check.specs.Marking.{code_of};
+ghost use Rattle.clause_base.specs.Literals.{code_of};
 ghost use Rattle.clause_watches.specs.Listing.{AreListed, pair_of, list_of, IsOther};
 
 use crate::numbers::Numbers;
@@ -134,7 +134,7 @@ fn pair_in(pairs: &[Option<(Lit, Lit)>], number: usize) -> Option<(Lit, Lit)>
 fn count_in(lists: &[Numbers], lit: Lit) -> usize
     ensures { result ≡ length (list_of lists.now lit) }
 {
-    match lists.get(code(lit)) {
+    match lists.get(lit.code()) {
         Some(list) => list.len(),
         None => 0,
     }
@@ -145,7 +145,7 @@ fn number_in(lists: &[Numbers], lit: Lit, index: usize) -> usize
     requires { index < length (list_of lists.now lit) }
     ensures { result ≡ slice_index_or (list_of lists.now lit) index 0 }
 {
-    lists[code(lit)].get(index)
+    lists[lit.code()].get(index)
 }
 
 /// Puts the clause into the literal's list. Want of memory changes nothing.
@@ -157,7 +157,7 @@ fn join(lists: &mut Vec<Numbers>, lit: Lit, number: usize) -> Result<(), AllocEr
     ensures only { (l : ℤ) (n : ℕ) → Contains (list_of lists.new.items l) n → Contains (list_of lists.old.items l) n ⊎ (n ≡ number) }
     ensures others { (l : ℤ) → l ≢ lit → list_of lists.new.items l ≡ list_of lists.old.items l }
 {
-    lists[code(lit)].push(number)
+    lists[lit.code()].push(number)
 }
 
 /// Puts the clause into the lists of both literals. After want of memory it may stand in one of them.
@@ -190,13 +190,5 @@ fn leave(lists: &mut Vec<Numbers>, lit: Lit, index: usize)
     ensures none { (n : ℕ) → Contains (list_of lists.new.items lit) n → Contains (list_of lists.old.items lit) n }
     ensures others { (l : ℤ) → l ≢ lit → list_of lists.new.items l ≡ list_of lists.old.items l }
 {
-    lists[code(lit)].drop_at(index);
-}
-
-/// The place of a literal in a table: twice the variable, and one more for the negation.
-fn code(lit: Lit) -> usize
-    ensures { result ≡ code_of lit }
-{
-    let place = lit.variable() as usize * 2;
-    if lit.value() < 0 { place + 1 } else { place }
+    lists[lit.code()].drop_at(index);
 }

@@ -12,8 +12,7 @@ use Rattle.std.proofs.lemmas.Map.Steps.{length-le_from_distinct_below}
 use Rattle.clause_base.specs.FormulaText.{is_literal_of}
 use Rattle.clause_base.specs.Literals.{is_in}
 use Rattle.clause_base.specs.Novelty.{IsApart, HaveSame}
-use Rattle.refutation_check.proofs.Soundness.{by_test}
-use Rattle.search_trail.proofs.Members.{in_contains, contains_in}
+use Rattle.clause_base.proofs.LiteralLemmas.{by_test, in_contains, contains_in}
 use Rattle.conflict_solver.specs.Deriving.{AllNew, IsPlain}
 
 -- ---- a number for each clause

@@ -1,17 +1,16 @@
 -- One line more of a derivation.
-use Rattle.std.proofs.Common.{◌≡◌, ◌≢◌, ℕ, zero, suc, ◌+◌, ◌-◌, ◌<◌, ◌≤◌, ◌^◌, ◌⊎◌, inl, inr, ℤ, true, false, nat_lt, List, [], ◌∷◌, ◌++◌, length, map, take, refl, sym, ap, ◌∙◌, subst, arith, append_assoc}
-use Rattle.std.specs.List.{count_by, All}
-use Rattle.std.proofs.lemmas.List.{map-append, length_push, length-append, length-map, take-append-le, get_or_push, take_all, append-nil}
+use Rattle.std.proofs.Common.{◌≡◌, ◌≢◌, ℕ, ◌+◌, ◌-◌, ◌<◌, ◌≤◌, ◌⊎◌, inl, inr, ℤ, nat_lt, List, [], ◌∷◌, ◌++◌, length, refl, sym, ap, ◌∙◌, subst, arith, append_assoc}
+use Rattle.std.proofs.lemmas.List.{map-append, length_push, take-append-le, get_or_push, take_all, append-nil}
 use Rattle.std.proofs.lemmas.List.Elements.{All-push}
 use Rattle.std.proofs.lemmas.List.Sums.{count_by-le-length, count_by_more_no}
 use Rattle.clause_base.specs.Formulas.{Clauses}
 use Rattle.clause_base.specs.Teaching.{Teaches}
 use Rattle.refutation_check.specs.Following.{Follows, IsDerivation}
 use Rattle.proof_sinks.specs.declared.lines.Said.{Said}
-use Rattle.proof_sinks.specs.declared.lines.Said.TheVariants.{Axiom, Derived}
+use Rattle.proof_sinks.specs.declared.lines.Said.TheVariants.{Derived}
 use Rattle.search_trail.specs.Trails.{Search}
-use Rattle.conflict_solver.specs.Deriving.{line_clauses, filled_lines, AllTeach, IsPlain, AreDerived, given_lines, derived_lines, proof_of, IsProof}
-use Rattle.conflict_solver.specs.Answering.{IsAnswered, EndsEmpty}
+use Rattle.conflict_solver.specs.Deriving.{line_clauses, filled_lines, AllTeach, IsPlain, given_lines, derived_lines, proof_of, IsProof}
+use Rattle.conflict_solver.specs.Answering.{IsAnswered}
 use Rattle.conflict_solver.specs.declared.verdict.Verdict.TheVariants.{Refuted}
 use Rattle.conflict_solver.specs.Running.{IsUnderWay}
 

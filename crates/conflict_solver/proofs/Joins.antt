@@ -1,6 +1,6 @@
 -- What is kept where a clause joins.
 use Rattle.std.proofs.Common.{◌≡◌, ◌≢◌, ℕ, ◌+◌, ◌-◌, ◌<◌, ◌≤◌, inl, inr, ℤ, pos, neg_ℤ, nat_abs, Bool, true, false, Option, Some, None, Result, Ok, Err, OnOk, IfSome, List, [], ◌∷◌, ◌++◌, length, take, get_or, refl, sym, ap, ◌∙◌, subst, arith}
-use Rattle.std.specs.List.{All, Any, Contains}
+use Rattle.std.specs.List.{All, Contains}
 use Rattle.std.proofs.lemmas.Bool.{cases_lt}
 use Rattle.std.proofs.lemmas.List.Elements.{Contains-get_or}
 use Rattle.std.proofs.lemmas.List.{take_all, take-take, take-append-le, length_push, length-take, get_or_default, get_or-take, get_or_past, get_or_push, get_or_append_left}
@@ -8,13 +8,13 @@ use Rattle.std.proofs.lemmas.Int.{ints}
 use Rattle.clause_base.specs.Literals.{is_in}
 use Rattle.clause_base.specs.Formulas.{IsOver}
 use Rattle.clause_base.specs.Teaching.{AllButNegated}
+use Rattle.clause_base.proofs.LiteralLemmas.{no_both, in_contains}
 use Rattle.refutation_check.specs.Following.{IsNumber, numbered}
-use Rattle.refutation_check.proofs.Soundness.{no_both}
 use Rattle.search_trail.specs.Trails.{Search, IsSearch, IsReason, lit_at, start_at, front, front_size, with_clause, with_implied, back_at}
 use Rattle.search_trail.specs.Learning.{IsLearnt, IsAsserting, IsJump}
-use Rattle.search_trail.proofs.Members.{in_from, in_contains, in_taken, in_pushed, take_at, by_push, lit_before, lit_new, in_at}
+use Rattle.search_trail.proofs.Members.{in_from, in_taken, in_pushed, by_push, lit_before, lit_new, in_at}
 use Rattle.search_trail.proofs.Growing.{size_inside, levels_back}
-use Rattle.search_trail.proofs.Jumps.{reason, unset, unset_negated, front_rising}
+use Rattle.search_trail.proofs.Jumps.{unset_negated}
 use Rattle.clause_watches.specs.Listing.{pair_of}
 use Rattle.clause_watches.specs.Watching.{Watched, IsBacked, IsGuarded, IsIdle, IsKept, AreKept, IsConflict, with_pair}
 use Rattle.clause_watches.proofs.Kept.{clause_kept, implied_kept}

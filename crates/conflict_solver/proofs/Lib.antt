@@ -4,3 +4,4 @@ mod Derivations
 mod Joins
 mod Verdicts
 mod Steps
+pub mod Worked

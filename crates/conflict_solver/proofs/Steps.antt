@@ -1,30 +1,30 @@
 -- The steps of a search under way.
-use Rattle.std.proofs.Common.{◌≡◌, ◌≢◌, ℕ, zero, suc, ◌+◌, ◌*◌, ◌-◌, ◌^◌, ◌<◌, ◌≤◌, ◌⊎◌, inl, inr, ℤ, pos, negsuc, neg_ℤ, nat_abs, true, false, Option, Some, None, IfSome, IfNone, Result, Ok, Err, OnErr, OnOk, IfOk, List, [], ◌∷◌, ◌++◌, length, take, get_or, refl, sym, ap, ◌∙◌, subst, arith}
-use Rattle.std.specs.List.{All, Any}
+use Rattle.std.proofs.Common.{◌≡◌, ◌≢◌, ℕ, zero, suc, ◌+◌, ◌-◌, ◌^◌, ◌<◌, ◌≤◌, ◌⊎◌, inl, inr, ℤ, pos, negsuc, neg_ℤ, nat_abs, true, Option, Some, None, IfSome, IfNone, Result, Ok, Err, OnErr, OnOk, IfOk, List, [], ◌∷◌, ◌++◌, length, take, get_or, refl, sym, ap, ◌∙◌, subst, arith}
+use Rattle.std.specs.List.{Any}
 use Rattle.std.proofs.lemmas.Bool.Decides.{nat_tests}
 use Rattle.std.proofs.lemmas.Int.{ints}
-use Rattle.std.proofs.lemmas.List.{get_or_default, length_push, take_more, take_all, map-append, append-nil, length-append, length-map}
+use Rattle.std.proofs.lemmas.List.{get_or_default, take_more, take_all, map-append, append-nil, length-append, length-map}
 use Rattle.std.proofs.lemmas.List.Elements.{All-more}
 use Rattle.clause_base.specs.Literals.{is_in}
 use Rattle.clause_base.specs.Formulas.{Clauses, IsFormula}
 use Rattle.clause_base.specs.FormulaText.{is_literal_of}
 use Rattle.clause_base.specs.Teaching.{Teaches, IsOpen}
+use Rattle.clause_base.proofs.LiteralLemmas.{in_contains}
 use Rattle.refutation_check.specs.Following.{Follows, numbered}
 use Rattle.proof_sinks.specs.declared.lines.Said.{Said}
 use Rattle.proof_sinks.specs.declared.lines.Said.TheVariants.{Axiom, Derived}
-use Rattle.search_trail.specs.Trails.{Search, IsSearch, front_size, start_at, with_clause, with_decision}
+use Rattle.search_trail.specs.Trails.{Search, IsSearch, front_size, with_clause, with_decision}
 use Rattle.search_trail.specs.Learning.{IsLearnt, IsAsserting, IsDoneBelow}
-use Rattle.search_trail.proofs.Members.{in_contains}
-use Rattle.clause_watches.specs.Watching.{Watched, AreKept, HasGrown, IsConflict}
+use Rattle.clause_watches.specs.Watching.{Watched, AreKept, HasGrown}
 use Rattle.clause_watches.proofs.Kept.{closed, decision_kept}
 use Rattle.conflict_solver.specs.Deriving.{IsPlain, AreDerived, IsProof, IsProofSoFar, AreGiven, given_lines, derived_lines}
 use Rattle.conflict_solver.specs.Answering.{AreExhausted, IsAnswered}
 use Rattle.conflict_solver.specs.declared.verdict.Verdict.{Verdict}
 use Rattle.conflict_solver.specs.declared.verdict.Verdict.TheVariants.{Values, Refuted, Undecided}
 use Rattle.conflict_solver.specs.declared.verdict.SolveFault.{SolveFault}
-use Rattle.conflict_solver.specs.Joining.{HasJoined, HasGiven}
+use Rattle.conflict_solver.specs.Joining.{HasJoined}
 use Rattle.conflict_solver.specs.Setting.{AreTrue, IsSettled, HasDecided}
-use Rattle.conflict_solver.specs.Running.{IsUnderWay, IsGiving, work_left, room}
+use Rattle.conflict_solver.specs.Running.{IsUnderWay, IsGiving}
 use Rattle.conflict_solver.proofs.Counting.{few_lines}
 use Rattle.conflict_solver.proofs.Derivations.{line_more, ends_empty, so_far, answered}
 use Rattle.conflict_solver.proofs.Verdicts.{settled, open_below}

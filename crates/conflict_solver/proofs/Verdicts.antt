@@ -1,22 +1,21 @@
 -- What a verdict rests on.
-use Rattle.std.proofs.Common.{◌≡◌, ◌≢◌, ℕ, zero, suc, ◌+◌, ◌*◌, ◌-◌, ◌<◌, ◌≤◌, inl, inr, ℤ, pos, negsuc, neg_ℤ, nat_abs, Bool, true, false, not, List, [], ◌∷◌, ◌++◌, length, take, get_or, refl, sym, ap, ◌∙◌, subst, arith}
-use Rattle.std.specs.List.{All, Any, Contains}
+use Rattle.std.proofs.Common.{◌≡◌, ℕ, zero, suc, ◌-◌, ◌<◌, ◌≤◌, ℤ, pos, negsuc, neg_ℤ, nat_abs, Bool, true, false, not, List, [], ◌++◌, length, get_or, sym, ap, ◌∙◌, subst, arith}
+use Rattle.std.specs.List.{All, Any}
 use Rattle.std.proofs.lemmas.List.{take_all, length-append, get_or_append_left, get_or_past, get_or_default}
 use Rattle.clause_base.specs.Literals.{is_in}
 use Rattle.clause_base.specs.Formulas.{Clauses}
-use Rattle.clause_base.specs.Solving.{is_true_under, IsTrueUnder, Solves}
+use Rattle.clause_base.specs.Solving.{is_true_under, IsTrueUnder}
 use Rattle.clause_base.specs.Teaching.{IsOpen}
+use Rattle.clause_base.proofs.LiteralLemmas.{by_test, in_contains}
 use Rattle.refutation_check.specs.Following.{IsNumber, numbered}
-use Rattle.refutation_check.proofs.Soundness.{by_test, no_both}
 use Rattle.proof_sinks.specs.declared.lines.Said.{Said}
 use Rattle.search_trail.specs.Trails.{Search, IsSearch, front, front_size}
-use Rattle.search_trail.proofs.Members.{in_contains}
 use Rattle.search_trail.proofs.Teaches.{front_consistent}
 use Rattle.clause_watches.specs.Watching.{Watched, AreKept}
 use Rattle.clause_watches.proofs.Fronts.{top_front}
 use Rattle.clause_watches.proofs.Kept.{closed}
 use Rattle.conflict_solver.specs.Deriving.{line_clauses}
-use Rattle.conflict_solver.specs.Answering.{AreSolution, AreExhausted, IsAnswered}
+use Rattle.conflict_solver.specs.Answering.{AreSolution, IsAnswered}
 use Rattle.conflict_solver.specs.declared.verdict.Verdict.{Verdict}
 use Rattle.conflict_solver.specs.declared.verdict.Verdict.TheVariants.{Values, Refuted, Undecided}
 use Rattle.conflict_solver.specs.Setting.{AreTrue, AreValues, IsSettled}

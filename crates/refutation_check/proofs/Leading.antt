@@ -5,9 +5,9 @@ use Rattle.std.specs.Ordering.{int_eq}
 use Rattle.std.proofs.lemmas.List.{take_all, take_more}
 use Rattle.std.proofs.lemmas.List.Elements.{All-contains}
 use Rattle.clause_base.specs.Formulas.{IsOver}
+use Rattle.clause_base.proofs.LiteralLemmas.{no_both}
 use Rattle.refutation_check.specs.Following.{IsNumber, numbered, HasFailed, IsUnit, joined, Runs}
 use Rattle.refutation_check.specs.Refusing.{Leads, IsLost, IsStuck, IsClashless}
-use Rattle.refutation_check.proofs.Soundness.{no_both}
 
 pub one_unit : (fails : ℤ → Bool) (clause : List ℤ) (a b : ℤ) → IsUnit fails clause a → IsUnit fails clause b → a ≡ b
 one_unit fails clause a b first second = elim (All-contains (λ m. (m ≡ b) ⊎ (fails m ≡ true)) clause a second.others first.there) [

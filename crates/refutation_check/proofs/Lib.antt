@@ -3,3 +3,4 @@ pub mod Leading
 pub mod Scanning
 pub mod Keeps
 pub mod Faults
+pub mod Worked

@@ -3,11 +3,11 @@ use Rattle.std.proofs.Common.{◌≡◌, ◌≢◌, ℕ, ◌+◌, ◌<◌, ◌�
 use Rattle.std.specs.List.{All, Contains}
 use Rattle.std.proofs.lemmas.List.{take_all, take_more}
 use Rattle.std.proofs.lemmas.List.Elements.{All-contains, All-contains_itself, All-push, All-take, Contains-append_left, Contains-push}
+use Rattle.clause_base.proofs.LiteralLemmas.{no_both}
 use Rattle.refutation_check.specs.Following.{HasFailed, IsUnit}
 use Rattle.refutation_check.specs.Left.{IsLeft}
 use Rattle.refutation_check.specs.declared.hints.Left.{Left}
 use Rattle.refutation_check.specs.declared.hints.Left.TheVariants.{Nothing, Sole, Several}
-use Rattle.refutation_check.proofs.Soundness.{no_both}
 use Rattle.refutation_check.proofs.Leading.{failed_not_unit, unit_not_failed}
 
 -- what is known of the literals so far

@@ -2,28 +2,17 @@
 use Rattle.std.proofs.Common.{◌≡◌, ℕ, zero, suc, ◌-◌, ◌<◌, ℤ, neg_ℤ, Bool, true, false, ◌||◌, List, [], ◌∷◌, ◌++◌, length, get_or, inl, inr, refl, sym, ap, ◌∙◌, subst, arith}
 use Rattle.std.specs.List.{Contains, list_any}
 use Rattle.std.specs.Ordering.{int_eq}
-use Rattle.std.proofs.lemmas.Int.{ints}
-use Rattle.std.proofs.lemmas.Bool.Decides.{nat_tests}
 use Rattle.std.proofs.lemmas.List.Elements.{All-push}
 use Rattle.std.proofs.lemmas.List.Folds.{Any-from_list_any, list_any_at}
 use Rattle.clause_base.specs.Literals.{is_in}
 use Rattle.clause_base.specs.Solving.{IsTrueUnder, Solves}
 use Rattle.clause_base.specs.Teaching.{IsConsistent}
+use Rattle.clause_base.proofs.LiteralLemmas.{by_test, no_both, same_lit}
 use Rattle.refutation_check.specs.Following.{IsNumber, numbered, IsUnit, joined, Runs, Follows, IsDerivation}
-
-pub by_test : {P : Type 0} (b : Bool) → (b ≡ true → P) → (b ≡ false → P) → P
-by_test true t f = t refl
-by_test false t f = f refl
-
-pub no_both : {P : Type 0} {b : Bool} → b ≡ true → b ≡ false → P
-no_both t f = let both : ⊥ = cc in absurd both
 
 pub by_either : {P : Type 0} (a b : Bool) → (a || b) ≡ true → (a ≡ true → P) → (b ≡ true → P) → P
 by_either true b is f g = f refl
 by_either false b is f g = g is
-
-pub same_lit : (a b : ℤ) → int_eq a b ≡ true → a ≡ b
-same_lit a b is = grind (arith, ints, nat_tests, is)
 
 module _ (holds : ℤ → Bool) (choice : IsConsistent holds) where
   abbrev AllFalse : (ℤ → Bool) → Type 0

@@ -1,10 +1,6 @@
 -- A set of literals as a table of stamps.
-use Rattle.std.specs.Prelude.{◌≡◌, ℕ, ◌+◌, ◌*◌, ◌<◌, ◌≤◌, ℤ, pos, negsuc, Bool, nat_eq, List, length, slice_index_or, All}
-
--- the place of a literal in the table
-abbrev pub code_of : ℤ → ℕ
-code_of (pos n) = 2 * n
-code_of (negsuc n) = 2 * n + 3
+use Rattle.std.specs.Prelude.{◌≡◌, ℕ, ◌+◌, ◌*◌, ◌<◌, ◌≤◌, ℤ, Bool, nat_eq, List, length, slice_index_or, All}
+use Rattle.clause_base.specs.Literals.{code_of}
 
 -- a greatest variable, a stamp for each literal, and the current one
 pub record Stamps : Type 0 where

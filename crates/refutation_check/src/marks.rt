@@ -2,7 +2,7 @@
 
 ghost use Rattle.std.specs.Prelude.{◌≡◌, ◌≤◌, ◌||◌, ℤ, false, nat_abs, slice_index_or, IfOk};
 ghost use Rattle.std.specs.Ordering.{int_eq};
-ghost use Rattle.refutation_check.specs.Marking.{code_of, is_marked};
+ghost use Rattle.refutation_check.specs.Marking.{is_marked};
 
 use clause_base::Lit;
 use std::alloc::{AllocError, Global};
@@ -66,14 +66,14 @@ impl Marks {
         ensures vars { self.new.vars ≡ self.old.vars }
         ensures joined { (m : ℤ) → is_marked self.new m ≡ (int_eq m lit || is_marked self.old m) }
     {
-        self.stamps[code(lit)] = self.stamp;
+        self.stamps[lit.code()] = self.stamp;
     }
 
     /// Whether the literal is in the set.
     pub(crate) fn contains(&self, lit: Lit) -> bool
         ensures { result ≡ is_marked self.now lit }
     {
-        stamp_at(self.stamps.as_slice(), code(lit)) == self.stamp
+        stamp_at(self.stamps.as_slice(), lit.code()) == self.stamp
     }
 }
 
@@ -82,12 +82,4 @@ fn stamp_at(stamps: &[u64], place: usize) -> u64
     ensures { result ≡ slice_index_or stamps.now place 0 }
 {
     stamps.get(place).copied().unwrap_or(0)
-}
-
-/// The place of a literal in the table: twice the variable, and one more for the negation.
-fn code(lit: Lit) -> usize
-    ensures { result ≡ code_of lit }
-{
-    let place = lit.variable() as usize * 2;
-    if lit.value() < 0 { place + 1 } else { place }
 }

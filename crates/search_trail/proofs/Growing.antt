@@ -9,10 +9,10 @@ use Rattle.std.proofs.Math.IntN.{neg_ℤ-neg_ℤ}
 use Rattle.clause_base.specs.Literals.{is_in, IsLiteral}
 use Rattle.clause_base.specs.Formulas.{IsOver}
 use Rattle.clause_base.specs.Teaching.{AllButNegated}
+use Rattle.clause_base.proofs.LiteralLemmas.{no_both, contains_in, in_contains}
 use Rattle.refutation_check.specs.Following.{numbered}
-use Rattle.refutation_check.proofs.Soundness.{no_both}
 use Rattle.search_trail.specs.Trails.{lit_at, reason_at, start_at, IsOnce, IsReason, AreStarts, IsTrail}
-use Rattle.search_trail.proofs.Members.{by_push, lit_before, lit_new, not_at, contains_in, in_contains, in_taken}
+use Rattle.search_trail.proofs.Members.{by_push, lit_before, lit_new, not_at, in_taken}
 
 -- ---- a clause more
 

@@ -1,16 +1,16 @@
 -- A learnt clause after the jump back: its first literal alone isn't false.
-use Rattle.std.proofs.Common.{◌≡◌, ℕ, ◌+◌, ◌-◌, ◌<◌, ◌≤◌, ◌⊎◌, inl, inr, ℤ, pos, neg_ℤ, Bool, true, false, List, [], ◌∷◌, ◌++◌, length, take, get_or, slice_index_or, refl, sym, ap, ◌∙◌, subst, arith}
-use Rattle.std.specs.List.{All, Contains}
+use Rattle.std.proofs.Common.{◌≡◌, ℕ, ◌+◌, ◌-◌, ◌<◌, ◌≤◌, inl, inr, ℤ, pos, neg_ℤ, false, List, [], ◌∷◌, ◌++◌, length, sym, ap, subst, arith}
+use Rattle.std.specs.List.{Contains}
 use Rattle.std.proofs.lemmas.Bool.{cases_lt}
 use Rattle.std.proofs.lemmas.List.{length_push, get_or_push, get_or_default}
 use Rattle.std.proofs.lemmas.List.Elements.{Contains-get_or}
 use Rattle.clause_base.specs.Literals.{is_in}
 use Rattle.clause_base.specs.Teaching.{AllButNegated}
-use Rattle.refutation_check.specs.Following.{IsNumber, numbered}
-use Rattle.refutation_check.proofs.Soundness.{by_test, no_both}
-use Rattle.search_trail.specs.Trails.{Search, IsSearch, IsReason, lit_at, start_at, front, front_size}
-use Rattle.search_trail.specs.Learning.{below, IsLearnt, IsAsserting, IsJump}
-use Rattle.search_trail.proofs.Members.{in_contains, in_taken, in_further}
+use Rattle.clause_base.proofs.LiteralLemmas.{by_test, no_both, in_contains}
+use Rattle.refutation_check.specs.Following.{numbered}
+use Rattle.search_trail.specs.Trails.{Search, IsSearch, IsReason, lit_at, front, front_size}
+use Rattle.search_trail.specs.Learning.{IsLearnt, IsAsserting, IsJump}
+use Rattle.search_trail.proofs.Members.{in_taken, in_further}
 
 pub front_rising : (s : Search) (i j : ℕ) → IsSearch s → i ≤ j → j < length s.starts → front_size s i ≤ front_size s j
 front_rising s i j t le lt = elim (cases_lt i j) [

@@ -4,3 +4,4 @@ pub mod Growing
 pub mod Walks
 pub mod Teaches
 pub mod Jumps
+pub mod Worked

@@ -1,18 +1,12 @@
 -- Literals of a list, as a set and by their places.
 use Rattle.std.proofs.Common.{◌≡◌, ℕ, ◌<◌, ◌≤◌, inl, inr, ℤ, pos, true, false, List, [], ◌∷◌, ◌++◌, length, take, sym, ◌∙◌, subst, arith}
-use Rattle.std.specs.List.{Contains}
 use Rattle.std.specs.Ordering.{int_eq}
-use Rattle.std.proofs.lemmas.Int.{ints}
 use Rattle.std.proofs.lemmas.Bool.{cases_lt}
-use Rattle.std.proofs.lemmas.Bool.Decides.{nat_tests}
 use Rattle.std.proofs.lemmas.List.{get_or-take, length-take-le, take_all, get_or_append_left, get_or_push, length_push, get_or_default}
 use Rattle.std.proofs.lemmas.List.Folds.{Any-from_list_any, list_any_at}
 use Rattle.clause_base.specs.Literals.{is_in}
-use Rattle.refutation_check.proofs.Soundness.{by_test, no_both, same_lit}
+use Rattle.clause_base.proofs.LiteralLemmas.{by_test, no_both, same_lit, same_test}
 use Rattle.search_trail.specs.Trails.{lit_at}
-
-same_test : (a b : ℤ) → a ≡ b → int_eq a b ≡ true
-same_test a b same = grind (arith, ints, nat_tests, same)
 
 -- where a literal of a list stands
 pub record IsAt (lits : List ℤ) (l : ℤ) : Type 0 where
@@ -35,12 +29,6 @@ pub not_in : (xs : List ℤ) (l : ℤ) → ((p : ℕ) → p < length xs → lit_
 not_in xs l none = by_test (is_in xs l)
     (λ is. let at = in_at xs l is in absurd (none at.place at.inside at.here))
     (λ is. is)
-
-pub in_contains : (xs : List ℤ) (l : ℤ) → is_in xs l ≡ true → Contains xs l
-in_contains xs l is = let at = in_at xs l is in (at.place, at.inside, get_or_default xs at.place l (pos 0) at.inside ∙ at.here)
-
-pub contains_in : (xs : List ℤ) (l : ℤ) → Contains xs l → is_in xs l ≡ true
-contains_in xs l has = let (k, lt, at) = has in in_from xs l k lt (get_or_default xs k (pos 0) l lt ∙ at)
 
 -- a literal of the front of a list, and its place there
 pub record IsBefore (lits : List ℤ) (size : ℕ) (l : ℤ) : Type 0 where

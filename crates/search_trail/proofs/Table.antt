@@ -1,24 +1,17 @@
 -- The table of places: one literal more, and one less.
-use Rattle.std.proofs.Common.{◌≡◌, ℕ, ◌+◌, ◌-◌, ◌*◌, ◌<◌, ◌≤◌, inl, inr, ℤ, pos, negsuc, nat_abs, true, false, List, [], ◌∷◌, ◌++◌, length, take, set, get_or, if◌then◌else◌, refl, sym, ap, ◌∙◌, subst, arith}
+use Rattle.std.proofs.Common.{◌≡◌, ℕ, ◌+◌, ◌-◌, ◌<◌, ◌≤◌, inl, inr, ℤ, pos, false, List, [], ◌∷◌, ◌++◌, length, take, set, get_or, if◌then◌else◌, refl, sym, ap, ◌∙◌, subst, arith}
 use Rattle.std.specs.List.{sum_by}
 use Rattle.std.specs.Ordering.{int_eq}
-use Rattle.std.proofs.lemmas.Int.{ints}
 use Rattle.std.proofs.lemmas.Bool.{cases_lt}
 use Rattle.std.proofs.lemmas.Bool.Decides.{nat_tests}
 use Rattle.std.proofs.lemmas.List.{length_push, length-set, get_or-take, get_or_past, take_at, take-append-le}
 use Rattle.std.proofs.lemmas.List.Sums.{sum_by-set}
 use Rattle.clause_base.specs.Literals.{is_in}
-use Rattle.refutation_check.specs.Marking.{code_of}
-use Rattle.refutation_check.proofs.Soundness.{by_test, same_lit}
+use Rattle.clause_base.specs.Literals.{code_of}
+use Rattle.clause_base.proofs.LiteralLemmas.{by_test, same_lit, same_test, differ}
 use Rattle.search_trail.specs.Trails.{lit_at}
 use Rattle.search_trail.specs.Placing.{rank, free, IsPlaced}
 use Rattle.search_trail.proofs.Members.{by_push, lit_before, lit_new, not_at, not_in}
-
-differ : (a b : ℤ) → int_eq a b ≡ false → a ≡ b → ⊥
-differ a b is e = grind (arith, ints, nat_tests, is, e)
-
-same_test : (a b : ℤ) → a ≡ b → int_eq a b ≡ true
-same_test a b e = grind (arith, ints, nat_tests, e)
 
 pub not_ranked : (vars : ℕ) (ranks : List ℕ) (lits : List ℤ) (l : ℤ) → IsPlaced vars ranks lits → rank ranks l ≡ 0 → is_in lits l ≡ false
 not_ranked vars ranks lits l placed none = not_in lits l (λ p lt at. omega (arith, none, placed.ranked p lt, ap (λ z. rank ranks z) at))
@@ -136,7 +129,3 @@ module _ (vars : ℕ) (ranks after : List ℕ) (lits new : List ℤ) (lit : ℤ)
 pub popped_front : (lits front all : List ℤ) (lit : ℤ) (size : ℕ) → lits ≡ front ++ lit ∷ [] → size < length lits → take size lits ≡ take size all → take size front ≡ take size all
 popped_front lits front all lit size is more same =
     sym (take-append-le size front (lit ∷ []) (omega (arith, more, ap length is, length_push front lit))) ∙ ap (λ ls. take size ls) (sym is) ∙ same
-
-pub coded : (vars : ℕ) (l : ℤ) → nat_abs l ≤ vars → code_of l < vars * 2 + 2
-coded vars (pos n) small = omega (arith, small)
-coded vars (negsuc n) small = omega (arith, small)

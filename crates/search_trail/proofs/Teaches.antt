@@ -7,12 +7,13 @@ use Rattle.std.proofs.lemmas.List.{length-map, get_or-map, get_or_default}
 use Rattle.std.proofs.lemmas.List.Elements.{Contains-get_or}
 use Rattle.clause_base.specs.Literals.{is_in}
 use Rattle.clause_base.specs.Teaching.{AllButNegated, IsConsistent, IsPropagated, IsClosed, Teaches}
+use Rattle.clause_base.proofs.LiteralLemmas.{by_test, no_both, same_lit, in_contains, contains_in}
 use Rattle.refutation_check.specs.Following.{IsNumber, numbered, IsUnit, joined, Runs, Follows}
-use Rattle.refutation_check.proofs.Soundness.{by_test, by_either, no_both, same_lit}
+use Rattle.refutation_check.proofs.Soundness.{by_either}
 use Rattle.search_trail.specs.Trails.{Search, IsSearch, lit_at, start_at, front, front_size}
 use Rattle.search_trail.specs.Walking.{IsWalk, falses}
 use Rattle.search_trail.specs.Learning.{below, IsLearnt, IsAsserting, IsJump, IsDoneBelow}
-use Rattle.search_trail.proofs.Members.{in_from, in_at, in_contains, contains_in, in_taken, take_at, at_take, not_before}
+use Rattle.search_trail.proofs.Members.{in_from, in_at, in_taken, at_take, not_before}
 
 -- hints lead nowhere from literals that are all negated in a closed set
 module _ (set : ℤ → Bool) (earlier : List (List ℤ)) (consistent : IsConsistent set) (closed : IsClosed set earlier) where

@@ -1,7 +1,7 @@
 -- A table that tells where each literal stands on the trail.
 use Rattle.std.specs.Prelude.{◌≡◌, ℕ, ◌+◌, ◌*◌, ◌-◌, ◌<◌, ◌≤◌, ℤ, List, length, nat_eq, slice_index_or, if◌then◌else◌}
 use Rattle.std.specs.List.{sum_by}
-use Rattle.refutation_check.specs.Marking.{code_of}
+use Rattle.clause_base.specs.Literals.{code_of}
 use Rattle.search_trail.specs.Trails.{lit_at}
 
 -- the literals in their order

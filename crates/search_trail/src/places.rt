@@ -2,8 +2,7 @@
 
 ghost use Rattle.std.specs.Prelude.{◌≡◌, ◌<◌, ◌≤◌, ◌+◌, ◌*◌, ℕ, ℤ, [], ◌∷◌, ◌++◌, take, set, length, false, true, neg_ℤ, nat_abs, slice_index_or, if◌then◌else◌, OnOk, OnErr, IfOk, IfSome, IfNone, Contains};
 ghost use Rattle.std.specs.Ordering.{int_eq};
-ghost use Rattle.clause_base.specs.Literals.{is_in, IsLiteral};
-ghost use Rattle.refutation_check.specs.Marking.{code_of};
+ghost use Rattle.clause_base.specs.Literals.{is_in, IsLiteral, code_of};
 ghost use Rattle.search_trail.specs.Trails.{lit_at};
 ghost use Rattle.search_trail.specs.Placing.{rank, IsPlaced};
 
@@ -110,7 +109,7 @@ impl Places {
 fn rank_of(ranks: &[usize], lit: Lit) -> usize
     ensures { result ≡ rank ranks.now lit }
 {
-    ranks.get(code(lit)).copied().unwrap_or(0)
+    ranks.get(lit.code()).copied().unwrap_or(0)
 }
 
 /// Gives the literal this rank.
@@ -121,14 +120,5 @@ fn set_rank(ranks: &mut Vec<usize>, lit: Lit, to: usize)
     ensures literal { IsLiteral lit }
     ensures ranks { (m : ℤ) → rank ranks.new.items m ≡ (if int_eq m lit then to else rank ranks.old.items m) }
 {
-    ranks[code(lit)] = to;
-}
-
-/// The place of a literal in a table: twice the variable, and one more for the negation.
-fn code(lit: Lit) -> usize
-    ensures same { result ≡ code_of lit }
-    ensures literal { IsLiteral lit }
-{
-    let place = lit.variable() as usize * 2;
-    if lit.value() < 0 { place + 1 } else { place }
+    ranks[lit.code()] = to;
 }

@@ -1,6 +1,3 @@
-use Rattle.std.proofs.Common.{ℤ, neg_ℤ, true, subst, sym, ◌≡◌}
-use Rattle.std.specs.List.{All}
-use Rattle.clause_base.specs.Literals.{is_in}
 use Rattle.conflict_solver.proofs.Joins.{given_empty}
 use Rattle.conflict_solver.proofs.joining.give_empty.Goals as goal
 

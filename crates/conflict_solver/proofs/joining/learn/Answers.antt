@@ -1,10 +1,9 @@
-use Rattle.std.proofs.Common.{◌≡◌, ◌+◌, neg_ℤ, false, [], ◌∷◌, ◌++◌, length, refl, sym, ap, ◌∙◌, subst}
+use Rattle.std.proofs.Common.{◌≡◌, ◌+◌, neg_ℤ, false, [], ◌∷◌, ◌++◌, length, sym, ap, ◌∙◌, subst}
 use Rattle.std.proofs.lemmas.Result.{on_ok_weaker}
 use Rattle.clause_base.specs.Literals.{is_in}
 use Rattle.clause_base.specs.Formulas.{IsOver}
 use Rattle.search_trail.specs.Trails.{IsReason, lit_at, with_implied, with_clause}
 use Rattle.search_trail.proofs.Jumps.{reason, unset}
-use Rattle.clause_watches.specs.Watching.{AreKept}
 use Rattle.conflict_solver.proofs.Joins.{small, out_negated, learnt_joined, learnt_kept, on_both}
 use Rattle.conflict_solver.proofs.joining.learn.Goals as goal
 

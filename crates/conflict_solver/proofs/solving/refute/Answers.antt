@@ -1,4 +1,4 @@
-use Rattle.std.proofs.Common.{ap, length, ◌≡◌, arith, ◌∙◌}
+use Rattle.std.proofs.Common.{ap, length}
 use Rattle.conflict_solver.proofs.Steps.{refuted, torn_refuted, on_err}
 use Rattle.conflict_solver.proofs.solving.refute.Goals as goal
 

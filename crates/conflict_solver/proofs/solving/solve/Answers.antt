@@ -1,4 +1,4 @@
-use Rattle.std.proofs.Common.{◌≤◌, None, sym, ◌∙◌, subst, arith}
+use Rattle.std.proofs.Common.{None, sym, subst, arith}
 use Rattle.conflict_solver.specs.Running.{IsGiving}
 use Rattle.conflict_solver.proofs.Steps.{few_given, begun, decided}
 use Rattle.conflict_solver.proofs.solving.solve.Goals as goal

@@ -1,6 +1,4 @@
-use Rattle.std.proofs.Common.{◌-◌, length, subst, arith}
-use Rattle.clause_base.specs.Teaching.{IsOpen}
-use Rattle.conflict_solver.proofs.Verdicts.{open_below, exhausted}
+use Rattle.conflict_solver.proofs.Verdicts.{exhausted}
 use Rattle.conflict_solver.proofs.Steps.{decided_kept, settled_found, grown_open, done_when_none}
 use Rattle.conflict_solver.proofs.solving.turn.Goals as goal
 

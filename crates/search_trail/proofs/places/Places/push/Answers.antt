@@ -1,8 +1,9 @@
 use Rattle.std.proofs.Common.{◌≡◌, ◌+◌, ◌<◌, ◌≤◌, nat_abs, length, sym, ap, ◌∙◌, subst, false}
 use Rattle.std.proofs.lemmas.List.{length_push}
 use Rattle.clause_base.specs.Literals.{is_in}
-use Rattle.refutation_check.specs.Marking.{code_of}
-use Rattle.search_trail.proofs.Table.{coded, pushed}
+use Rattle.clause_base.specs.Literals.{code_of}
+use Rattle.clause_base.proofs.LiteralLemmas.{coded}
+use Rattle.search_trail.proofs.Table.{pushed}
 use Rattle.search_trail.proofs.places.Places.push.Goals as goal
 
 pub invariant_of-self-2 : goal.invariant_of-self-2

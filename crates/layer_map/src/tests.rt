@@ -58,41 +58,33 @@ fn reads_the_map_of_a_cell(rt: HostRuntime) -> Result<(), Fail> {
     Ok(())
 }
 
+/// Texts, and why each is refused.
+const FAULTY: [(&str, MapRefusal); 14] = [
+    ("wire metal !CMF", MapRefusal::Unbounded(1)),
+    ("wire metal CMF+!(CPG*!CAA)", MapRefusal::Unbounded(1)),
+    ("cut CVA : metal", MapRefusal::UnknownWire(1)),
+    ("cut !CVA : metal", MapRefusal::UnknownWire(1)),
+    (
+        "wire metal CMF\nlabel CMF metal\nhigh Vdd\n",
+        MapRefusal::NoSupplyLine(Side::Low),
+    ),
+    ("", MapRefusal::NoSupplyLine(Side::High)),
+    ("# map\r", MapRefusal::NoSupplyLine(Side::High)),
+    ("# map\n\nwire metal CMF+\n", MapRefusal::BadLine(3)),
+    ("wire m CMF\nwire m CPG", MapRefusal::TwiceNamed(2)),
+    ("wire m CMF\nwire m !CPG", MapRefusal::TwiceNamed(2)),
+    ("high Vdd\r\nlow Vdd\r\n", MapRefusal::TwiceNamed(2)),
+    ("high A+B A+B", MapRefusal::TwiceNamed(1)),
+    ("high Vdd\r", MapRefusal::BadLine(1)),
+    ("high+Vdd", MapRefusal::BadLine(1)),
+];
+
 #[test]
-fn refuses_the_first_fault(rt: HostRuntime) -> Result<(), Fail> {
+fn refuses_the_first_fault(rt: HostRuntime) {
     let alloc = rt.alloc();
-    let rows = [
-        (b"wire metal !CMF".as_slice(), MapRefusal::Unbounded(1)),
-        (
-            b"wire metal CMF+!(CPG*!CAA)".as_slice(),
-            MapRefusal::Unbounded(1),
-        ),
-        (b"cut CVA : metal".as_slice(), MapRefusal::UnknownWire(1)),
-        (
-            b"wire metal CMF\nlabel CMF metal\nhigh Vdd\n".as_slice(),
-            MapRefusal::NoSupplyLine(Side::Low),
-        ),
-        (b"".as_slice(), MapRefusal::NoSupplyLine(Side::High)),
-        (
-            b"# map\n\nwire metal CMF+\n".as_slice(),
-            MapRefusal::BadLine(3),
-        ),
-        (
-            b"wire m CMF\nwire m CPG".as_slice(),
-            MapRefusal::TwiceNamed(2),
-        ),
-        (
-            b"high Vdd\r\nlow Vdd\r\n".as_slice(),
-            MapRefusal::TwiceNamed(2),
-        ),
-        (b"high A+B A+B".as_slice(), MapRefusal::TwiceNamed(1)),
-        (b"high Vdd\r".as_slice(), MapRefusal::BadLine(1)),
-        (b"high+Vdd".as_slice(), MapRefusal::BadLine(1)),
-    ];
-    for (text, fault) in rows {
-        assert!(rt; refusal(alloc, text) == Some(fault));
+    for (text, fault) in FAULTY {
+        assert!(rt; refusal(alloc, text.as_bytes()) == Some(fault), "{text}");
     }
-    Ok(())
 }
 
 #[test]

@@ -3,6 +3,9 @@
 //! takes is trusted.
 #![tactic(auto)]
 
+ghost use Rattle.std.specs.Prelude.{◌≡◌, [], map, drop, string_bytes, IfOk, IfErr, OnOk, OnErr};
+ghost use Rattle.std.specs.IoError.{error_kind};
+
 use carafe_core::{Status, carafe};
 use probe_io::{FileShelf, Name, StreamSink};
 use std::alloc::{AllocError, Global};
@@ -28,14 +31,29 @@ fn main(rt: HostRuntime) -> ExitCode {
 }
 
 /// The words behind the program's name; none where an argument is no text.
-fn read_arguments(alloc: Global, arguments: io::Result<Args>) -> Result<Vec<Name>, AllocError> {
+fn read_arguments(alloc: Global, arguments: io::Result<Args>) -> Result<Vec<Name>, AllocError>
+    ensures none { OnErr arguments (IfOk result (λ words. words.items ≡ [])) }
+    ensures memory { IfErr arguments (λ error. error_kind error ≡ ErrorKind.OutOfMemory → OnOk result ⊥) }
+{
+    match arguments {
+        Ok(arguments) => {
+            let arguments: Vec<String> = arguments.collect(alloc)?;
+            words_behind(alloc, arguments.as_slice())
+        }
+        Err(error) if error.kind() == ErrorKind::OutOfMemory => Err(AllocError),
+        Err(_) => Ok(Vec::new(alloc)),
+    }
+}
+
+/// The words behind the first of these.
+fn words_behind(alloc: Global, arguments: &[String]) -> Result<Vec<Name>, AllocError>
+    ensures { IfOk result (λ words. words.items ≡ drop 1 (map string_bytes arguments.now)) }
+{
     let mut words = Vec::new(alloc);
-    let arguments = match arguments {
-        Ok(arguments) => arguments,
-        Err(error) if error.kind() == ErrorKind::OutOfMemory => return Err(AllocError),
-        Err(_) => return Ok(words),
+    let Some((_, rest)) = arguments.split_first() else {
+        return Ok(words);
     };
-    for argument in arguments.skip(1) {
+    for argument in rest {
         words.push(Name::new(alloc, argument.as_str())?)?;
     }
     Ok(words)

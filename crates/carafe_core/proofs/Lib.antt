@@ -1,5 +1,4 @@
 pub mod WordLemmas
-pub mod PairLemmas
 pub mod SideLemmas
 pub mod CauseFacts
 pub mod NeverTooLong
@@ -7,3 +6,4 @@ pub mod LineLemmas
 pub mod Exactness
 pub mod OneReport
 pub mod Reported
+mod Worked

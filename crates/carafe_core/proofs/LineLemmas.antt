@@ -1,8 +1,8 @@
 -- The lines of bridges, one by one.
 use Rattle.std.proofs.Common.{◌≡◌, ℕ, suc, ◌+◌, ◌<◌, ◌≤◌, List, [], ◌∷◌, ◌++◌, length, take, drop, get_or, map, flat_map, Option, sym, ◌∙◌, ap, subst, arith, append_assoc}
 use Rattle.std.proofs.lemmas.List.{take_more, take_all, take-append-drop, drop_more, length-take-le, append-nil}
-use Rattle.std.proofs.lemmas.List.Concat.{flat_map-append}
 use Rattle.probe_io.specs.Written.{Appends, AppendsFront}
+use Rattle.probe_io.proofs.Texts.{Front-is, Whole-is}
 use Rattle.probe_io.proofs.WrittenLemmas.{Appends-then, Appends-front, AppendsFront-more}
 use Rattle.defect_sweep.specs.Counting.{Count}
 use Rattle.layer_map.specs.declared.map.WireLine.{WireLine}
@@ -39,22 +39,6 @@ AppendsFront-line wires names ranked i d within first next = rw (lines_at wires 
 -- the loop wrote all lines
 pub Appends-lines : {old new : Option (List ℕ)} (wires names : List (List ℕ)) (ranked : List Count) (i : ℕ) → length ranked ≤ i → Appends old new (bridge_lines wires names 1 (take i ranked)) → Appends old new (bridge_lines wires names 1 ranked)
 Appends-lines {old} {new} wires names ranked i end written = subst (λ xs. Appends old new (bridge_lines wires names 1 xs)) (take_all i ranked end) written
-
--- ---- texts of items, one behind the other
-
-texts_at : {X : Type 0} (text : X → List ℕ) (xs : List X) (i : ℕ) (d : X) → i < length xs → flat_map text xs ≡ flat_map text (take i xs) ++ (text (get_or xs i d) ++ flat_map text (drop (i + 1) xs))
-texts_at text xs i d within = ap (λ l. flat_map text l) (sym (take-append-drop i xs)) ∙ flat_map-append text (take i xs) (drop i xs) ∙ ap (λ l. flat_map text (take i xs) ++ flat_map text l) (drop_more xs i d within)
-
--- the loop wrote a front of one more text
-pub AppendsFront-text : {X : Type 0} {old between new : Option (List ℕ)} (text : X → List ℕ) (xs : List X) (i : ℕ) (d : X) → i < length xs → Appends old between (flat_map text (take i xs)) → AppendsFront between new (text (get_or xs i d)) → AppendsFront old new (flat_map text xs)
-AppendsFront-text text xs i d within first next = rw (texts_at text xs i d within) (Appends-front first (AppendsFront-more next (flat_map text (drop (i + 1) xs))))
-
--- a front of one text is one of the same text
-pub Front-is : {old new : Option (List ℕ)} {xs ys : List ℕ} → xs ≡ ys → AppendsFront old new xs → AppendsFront old new ys
-Front-is {old} {new} same front = subst (λ l. AppendsFront old new l) same front
-
-pub Whole-is : {old new : Option (List ℕ)} {xs ys : List ℕ} → xs ≡ ys → Appends old new xs → Appends old new ys
-Whole-is {old} {new} same whole = subst (λ l. Appends old new l) same whole
 
 -- ---- the names of wires
 

@@ -1,7 +1,7 @@
 -- The words that spell sides.
-use Rattle.std.proofs.Common.{◌≡◌, ◌≢◌, ◌⊎◌, inl, inr, ℕ, zero, suc, ◌<◌, ◌≤◌, ◌+◌, ◌/◌, ◌%◌, ◌^◌, Bool, true, false, List, [], ◌∷◌, ◌++◌, length, get_or, take, drop, All, AllPairs, map, Option, None, Some, Bor, refl, sym, ◌∙◌, ap, subst, arith}
-use Rattle.std.specs.Prelude.{nat_eq, IfNone}
-use Rattle.std.specs.List.{AllZip, slice_split, join_with_byte}
+use Rattle.std.proofs.Common.{◌≡◌, ◌≢◌, ◌⊎◌, inl, inr, ℕ, zero, suc, ◌<◌, ◌≤◌, ◌+◌, ◌/◌, ◌%◌, ◌^◌, Bool, true, false, List, [], ◌∷◌, ◌++◌, length, get_or, take, drop, All, map, Option, None, Some, Bor, refl, sym, ◌∙◌, ap, subst, arith}
+use Rattle.std.specs.Prelude.{nat_eq, IfNone, codes, if◌then◌else◌}
+use Rattle.std.specs.List.{AllZip, concat, slice_split, join_with_byte}
 use Rattle.std.specs.Fmt.{decimal}
 use Rattle.std.specs.Str.Parse.{AllDigits}
 use Rattle.std.specs.Char.{digit_value}
@@ -9,12 +9,12 @@ use Rattle.std.proofs.lemmas.Fmt.{decimal_is_IsNumeral, decimal_injective}
 use Rattle.std.proofs.lemmas.Str.Parse.{digit_from_value}
 use Rattle.std.proofs.lemmas.Bool.Decides.{nat_tests}
 use Rattle.std.proofs.lemmas.List.Elements.{All-nil, All-cons, All-head, All-tail, All-append, All-from_get_or}
-use Rattle.std.proofs.lemmas.List.{take_more, map-append, length-map}
+use Rattle.std.proofs.lemmas.List.{append-nil, take_more, map-append}
 use Rattle.std.proofs.lemmas.List.Splits.{slice_split_none, slice_split_at, length-slice_split, join_with_byte-slice_split}
 use Rattle.std.proofs.lemmas.Slice.Zip.{AllZip-long, all_zipped_more}
 use Rattle.defect_sweep.specs.declared.sides.SideWeight.{SideWeight}
-use Rattle.defect_sweep.specs.Sides.{no_side, AreSides as AreCounted}
-use Rattle.carafe_core.specs.Sides.{comma, size_of, IsSide, AreSides, SpellsEntry, SpellsSides}
+use Rattle.defect_sweep.specs.Sides.{AreSides}
+use Rattle.carafe_core.specs.Sides.{comma, size_of, IsEntrySide, SpellsEntry, SpellsSides, entry_text, sides_text}
 
 -- the text has no such byte
 Lacks : ℕ → List ℕ → Type 0
@@ -33,12 +33,12 @@ decimal_lacks byte n small other = digits_lack byte (decimal n) (decimal_is_IsNu
 
 -- ---- entries
 
-entry_lacks : (entry : List ℕ) (side : SideWeight) → IsSide side → SpellsEntry entry side → Lacks comma entry
+entry_lacks : (entry : List ℕ) (side : SideWeight) → IsEntrySide side → SpellsEntry entry side → Lacks comma entry
 unfolding Lacks
-entry_lacks entry side is (inl plain) = subst (λ e. Lacks comma e) (sym plain.0) (decimal_lacks comma (size_of side) (omega (arith, is.small)) (inl (omega arith)))
+entry_lacks entry side is (inl plain) = subst (λ e. Lacks comma e) (sym plain.0) (decimal_lacks comma (size_of side) (omega (arith, is.counted.small)) (inl (omega arith)))
 entry_lacks entry side is (inr spelled) =
-    let size = decimal_lacks comma (size_of side) (omega (arith, is.small)) (inl (omega arith)) in
-    let weight = decimal_lacks comma side.weight (omega (arith, is.light)) (inl (omega arith)) in
+    let size = decimal_lacks comma (size_of side) (omega (arith, is.counted.small)) (inl (omega arith)) in
+    let weight = decimal_lacks comma side.weight (omega (arith, is.counted.light)) (inl (omega arith)) in
     subst (λ e. Lacks comma e) (sym spelled)
     (All-append (λ b. nat_eq b comma ≡ false) (decimal (size_of side)) (58 ∷ decimal side.weight) size (All-cons (λ b. nat_eq b comma ≡ false) 58 (decimal side.weight) (grind (arith, nat_tests)) weight))
 
@@ -66,22 +66,22 @@ same_parts n m k l a b c d same =
 same_cells : (a b : ℕ) → a % 2 ≡ 0 → b % 2 ≡ 0 → a / 2 ≡ b / 2 → a ≡ b
 same_cells a b even also same = omega (arith, even, also, same)
 
-same_side : (s t : SideWeight) → IsSide s → IsSide t → size_of s ≡ size_of t → s.weight ≡ t.weight → s ≡ t
+same_side : (s t : SideWeight) → IsEntrySide s → IsEntrySide t → size_of s ≡ size_of t → s.weight ≡ t.weight → s ≡ t
 same_side s t is also sizes weights =
     let cells = same_cells s.cells t.cells is.even also.even sizes in
     λ i. record { cells = cells i; weight = weights i }
 
-size_small : (s : SideWeight) → IsSide s → size_of s < 2 ^ 64
-size_small s is = omega (arith, is.small)
+size_small : (s : SideWeight) → IsEntrySide s → size_of s < 2 ^ 64
+size_small s is = omega (arith, is.counted.small)
 
-weight_small : (s : SideWeight) → IsSide s → s.weight < 2 ^ 64
-weight_small s is = omega (arith, is.light)
+weight_small : (s : SideWeight) → IsEntrySide s → s.weight < 2 ^ 64
+weight_small s is = omega (arith, is.counted.light)
 
-size_lacks : (s : SideWeight) → IsSide s → Lacks 58 (decimal (size_of s))
+size_lacks : (s : SideWeight) → IsEntrySide s → Lacks 58 (decimal (size_of s))
 size_lacks s is = decimal_lacks 58 (size_of s) (size_small s is) (inr (omega arith))
 
 -- an entry spells one side at most
-pub one_side : (entry : List ℕ) (s t : SideWeight) → IsSide s → IsSide t → SpellsEntry entry s → SpellsEntry entry t → s ≡ t
+pub one_side : (entry : List ℕ) (s t : SideWeight) → IsEntrySide s → IsEntrySide t → SpellsEntry entry s → SpellsEntry entry t → s ≡ t
 one_side entry s t is also (inl here) (inl there) =
     same_side s t is also (decimal_injective (size_of s) (size_of t) (size_small s is) (size_small t also) (sym here.0 ∙ there.0)) (here.1 ∙ sym there.1)
 one_side entry s t is also (inl here) (inr there) = absurd (no_colon (decimal (size_of s)) (decimal (size_of t)) (decimal t.weight) (size_lacks s is) (size_lacks t also) (sym here.0 ∙ there))
@@ -103,12 +103,12 @@ unfolding Lacks
 lacks_from text none = All-from_get_or (λ b. nat_eq b 58 ≡ false) text 0 (λ i less. other_byte (get_or text i 0) (none i less))
 
 -- one without a `:` is a size, with the weight 1
-pub size_alone : (entry : List ℕ) → ((i : ℕ) → i < length entry → get_or entry i 0 ≢ 58) → ((n : ℕ) → 1 ≤ n → n ≤ 32768 → entry ≡ decimal n → ⊥) → (side : SideWeight) → IsSide side → SpellsEntry entry side → ⊥
-size_alone entry none no_size side is (inl plain) = no_size (size_of side) (omega (arith, is.some)) (omega (arith, is.small)) plain.0
+pub size_alone : (entry : List ℕ) → ((i : ℕ) → i < length entry → get_or entry i 0 ≢ 58) → ((n : ℕ) → 1 ≤ n → n ≤ 32768 → entry ≡ decimal n → ⊥) → (side : SideWeight) → IsEntrySide side → SpellsEntry entry side → ⊥
+size_alone entry none no_size side is (inl plain) = no_size (size_of side) (omega (arith, is.counted.some)) (omega (arith, is.counted.small)) plain.0
 size_alone entry none no_size side is (inr spelled) = no_colon entry (decimal (size_of side)) (decimal side.weight) (lacks_from entry none) (size_lacks side is) spelled
 
 -- one with a `:` is a size and a weight
-pub size_and_weight : (entry size weight : List ℕ) → (entry ≡ size ++ 58 ∷ weight) × ((i : ℕ) → i < length size → get_or size i 0 ≢ 58) → (side : SideWeight) → IsSide side → SpellsEntry entry side → (size ≡ decimal (size_of side)) × (weight ≡ decimal side.weight)
+pub size_and_weight : (entry size weight : List ℕ) → (entry ≡ size ++ 58 ∷ weight) × ((i : ℕ) → i < length size → get_or size i 0 ≢ 58) → (side : SideWeight) → IsEntrySide side → SpellsEntry entry side → (size ≡ decimal (size_of side)) × (weight ≡ decimal side.weight)
 unfolding Lacks
 size_and_weight entry size weight cut side is (inl plain) = absurd (no_colon (decimal (size_of side)) size weight (size_lacks side is) (lacks_from size cut.1) (sym plain.0 ∙ cut.0))
 size_and_weight entry size weight cut side is (inr spelled) =
@@ -116,11 +116,11 @@ size_and_weight entry size weight cut side is (inr spelled) =
     let lists = sym here ∙ ap (λ t. slice_split (λ b. nat_eq b 58) t) (sym cut.0 ∙ spelled) ∙ parts (size_of side) side.weight (size_small side is) (weight_small side is) in
     (ap (λ t. get_or t 0 []) lists, sym (join_with_byte-slice_split 58 weight) ∙ ap (λ t. join_with_byte 58 (drop 1 t)) lists)
 
-pub no_weight : (entry size weight : List ℕ) → (entry ≡ size ++ 58 ∷ weight) × ((i : ℕ) → i < length size → get_or size i 0 ≢ 58) → ((n : ℕ) → 1 ≤ n → n ≤ 30 → weight ≡ decimal n → ⊥) → (side : SideWeight) → IsSide side → SpellsEntry entry side → ⊥
-no_weight entry size weight cut none side is spells = none side.weight is.counts is.light (size_and_weight entry size weight cut side is spells).1
+pub no_weight : (entry size weight : List ℕ) → (entry ≡ size ++ 58 ∷ weight) × ((i : ℕ) → i < length size → get_or size i 0 ≢ 58) → ((n : ℕ) → 1 ≤ n → n ≤ 30 → weight ≡ decimal n → ⊥) → (side : SideWeight) → IsEntrySide side → SpellsEntry entry side → ⊥
+no_weight entry size weight cut none side is spells = none side.weight is.counted.counts is.counted.light (size_and_weight entry size weight cut side is spells).1
 
-pub no_size : (entry size weight : List ℕ) → (entry ≡ size ++ 58 ∷ weight) × ((i : ℕ) → i < length size → get_or size i 0 ≢ 58) → ((n : ℕ) → 1 ≤ n → n ≤ 32768 → size ≡ decimal n → ⊥) → (side : SideWeight) → IsSide side → SpellsEntry entry side → ⊥
-no_size entry size weight cut none side is spells = none (size_of side) (omega (arith, is.some)) (omega (arith, is.small)) (size_and_weight entry size weight cut side is spells).0
+pub no_size : (entry size weight : List ℕ) → (entry ≡ size ++ 58 ∷ weight) × ((i : ℕ) → i < length size → get_or size i 0 ≢ 58) → ((n : ℕ) → 1 ≤ n → n ≤ 32768 → size ≡ decimal n → ⊥) → (side : SideWeight) → IsEntrySide side → SpellsEntry entry side → ⊥
+no_size entry size weight cut none side is spells = none (size_of side) (omega (arith, is.counted.some)) (omega (arith, is.counted.small)) (size_and_weight entry size weight cut side is spells).0
 
 pub none_weaker : {X P Q : Type 0} (r : Option X) → (P → Q) → IfNone r P → IfNone r Q
 none_weaker None weaker p = weaker p
@@ -128,12 +128,12 @@ none_weaker (Some x) weaker p = tt
 
 -- ---- lists of entries
 
-entries_lack : (entries : List (List ℕ)) (sides : List SideWeight) → All IsSide sides → AllZip SpellsEntry entries sides → All (Lacks comma) entries
+entries_lack : (entries : List (List ℕ)) (sides : List SideWeight) → All IsEntrySide sides → AllZip SpellsEntry entries sides → All (Lacks comma) entries
 entries_lack [] [] are each = All-nil (Lacks comma)
 entries_lack [] (s ∷ sides) are each = All-nil (Lacks comma)
 entries_lack (e ∷ entries) [] are each = absurd each
 entries_lack (e ∷ entries) (s ∷ sides) are each =
-    All-cons (Lacks comma) e entries (entry_lacks e s (All-head IsSide s sides are) each.0) (entries_lack entries sides (All-tail IsSide s sides are) each.1)
+    All-cons (Lacks comma) e entries (entry_lacks e s (All-head IsEntrySide s sides are) each.0) (entries_lack entries sides (All-tail IsEntrySide s sides are) each.1)
 
 -- joined entries are cut again where they were joined
 split_joined : (entries : List (List ℕ)) → 1 ≤ length entries → All (Lacks comma) entries → slice_split (λ b. nat_eq b comma) (join_with_byte comma entries) ≡ entries
@@ -144,27 +144,31 @@ split_joined (e ∷ f ∷ entries) some lack =
     slice_split_at (λ b. nat_eq b comma) e comma (join_with_byte comma (f ∷ entries)) (All-head (Lacks comma) e (f ∷ entries) lack) (grind (arith, nat_tests))
     ∙ ap (λ t. e ∷ t) (split_joined (f ∷ entries) (omega arith) (All-tail (Lacks comma) e (f ∷ entries) lack))
 
+-- each side of a spelled word is one that an entry can spell
+each_side : (word : List ℕ) (sides : List SideWeight) → SpellsSides word sides → All IsEntrySide sides
+each_side word sides spells = λ k d within. record { counted = spells.are.each k d within; even = spells.even k d within }
+
 pub entries_are : (word : List ℕ) (sides : List SideWeight) (spells : SpellsSides word sides) → slice_split (λ b. nat_eq b comma) word ≡ spells.entries
 entries_are word sides spells =
     ap (λ t. slice_split (λ b. nat_eq b comma) t) spells.joined
-    ∙ split_joined spells.entries (omega (arith, spells.are.some, AllZip-long SpellsEntry spells.entries sides spells.each)) (entries_lack spells.entries sides spells.are.each spells.each)
+    ∙ split_joined spells.entries (omega (arith, spells.are.some, AllZip-long SpellsEntry spells.entries sides spells.each)) (entries_lack spells.entries sides (each_side word sides spells) spells.each)
 
 -- entries spell one list of sides
-pub one_list : (entries : List (List ℕ)) (sides others : List SideWeight) → All IsSide sides → All IsSide others → AllZip SpellsEntry entries sides → AllZip SpellsEntry entries others → sides ≡ others
+pub one_list : (entries : List (List ℕ)) (sides others : List SideWeight) → All IsEntrySide sides → All IsEntrySide others → AllZip SpellsEntry entries sides → AllZip SpellsEntry entries others → sides ≡ others
 one_list [] [] [] are also here there = refl
 one_list [] [] (t ∷ others) are also here there = absurd there
 one_list [] (s ∷ sides) others are also here there = absurd here
 one_list (e ∷ entries) [] others are also here there = absurd here
 one_list (e ∷ entries) (s ∷ sides) [] are also here there = absurd there
 one_list (e ∷ entries) (s ∷ sides) (t ∷ others) are also here there =
-    let first = one_side e s t (All-head IsSide s sides are) (All-head IsSide t others also) here.0 there.0 in
-    let rest = one_list entries sides others (All-tail IsSide s sides are) (All-tail IsSide t others also) here.1 there.1 in
+    let first = one_side e s t (All-head IsEntrySide s sides are) (All-head IsEntrySide t others also) here.0 there.0 in
+    let rest = one_list entries sides others (All-tail IsEntrySide s sides are) (All-tail IsEntrySide t others also) here.1 there.1 in
     λ i. first i ∷ rest i
 
 pub one_word : (word : List ℕ) (sides others : List SideWeight) → SpellsSides word sides → SpellsSides word others → sides ≡ others
 one_word word sides others here there =
     let entries = sym (entries_are word sides here) ∙ entries_are word others there in
-    one_list there.entries sides others here.are.each there.are.each (subst (λ es. AllZip SpellsEntry es sides) entries here.each) there.each
+    one_list there.entries sides others (each_side word sides here) (each_side word others there) (subst (λ es. AllZip SpellsEntry es sides) entries here.each) there.each
 
 -- the loop that read one more entry
 pub read_more : (entries : List (Bor (List ℕ))) (i : ℕ) (d : Bor (List ℕ)) (sides : List SideWeight) (s : SideWeight) → i < length entries → AllZip SpellsEntry (map (λ e. e.now) (take i entries)) sides → SpellsEntry (get_or entries i d).now s → AllZip SpellsEntry (map (λ e. e.now) (take (i + 1) entries)) (sides ++ s ∷ [])
@@ -173,11 +177,11 @@ read_more entries i d sides s less so_far spells =
     (all_zipped_more SpellsEntry (map (λ e. e.now) (take i entries)) sides (get_or entries i d).now s so_far spells)
 
 -- an entry that spells no side
-pub not_read : (entries : List (Bor (List ℕ))) (sides : List SideWeight) (i : ℕ) (d : Bor (List ℕ)) → i < length entries → ((side : SideWeight) → IsSide side → SpellsEntry (get_or entries i d).now side → ⊥) → All IsSide sides → AllZip SpellsEntry (map (λ e. e.now) entries) sides → ⊥
+pub not_read : (entries : List (Bor (List ℕ))) (sides : List SideWeight) (i : ℕ) (d : Bor (List ℕ)) → i < length entries → ((side : SideWeight) → IsEntrySide side → SpellsEntry (get_or entries i d).now side → ⊥) → All IsEntrySide sides → AllZip SpellsEntry (map (λ e. e.now) entries) sides → ⊥
 not_read [] sides i d less none are each = absurd (omega (arith, less))
 not_read (e ∷ entries) [] i d less none are each = absurd each
-not_read (e ∷ entries) (s ∷ sides) zero d less none are each = none s (All-head IsSide s sides are) each.0
-not_read (e ∷ entries) (s ∷ sides) (suc i) d less none are each = not_read entries sides i d (omega (arith, less)) none (All-tail IsSide s sides are) each.1
+not_read (e ∷ entries) (s ∷ sides) zero d less none are each = none s (All-head IsEntrySide s sides are) each.0
+not_read (e ∷ entries) (s ∷ sides) (suc i) d less none are each = not_read entries sides i d (omega (arith, less)) none (All-tail IsEntrySide s sides are) each.1
 
 -- ---- words
 
@@ -185,37 +189,34 @@ not_read (e ∷ entries) (s ∷ sides) (suc i) d less none are each = not_read e
 same_entries : (word : List ℕ) (entries : List (List ℕ)) (sides : List SideWeight) → entries ≡ slice_split (λ b. nat_eq b comma) word → SpellsSides word sides → AllZip SpellsEntry entries sides
 same_entries word entries sides cut spells = subst (λ es. AllZip SpellsEntry es sides) (sym (cut ∙ entries_are word sides spells)) spells.each
 
-pub not_many : (word : List ℕ) (entries : List (Bor (List ℕ))) (sides : List SideWeight) → map (λ e. e.now) entries ≡ slice_split (λ b. nat_eq b comma) word → SpellsSides word sides → length entries ≤ 8
-not_many word entries sides cut spells =
-    omega (arith, length-map entries (λ (e : Bor (List ℕ)). e.now), AllZip-long SpellsEntry (map (λ e. e.now) entries) sides (same_entries word (map (λ e. e.now) entries) sides cut spells), spells.are.few)
+pub not_spelled : (word : List ℕ) (entries : List (List ℕ)) → entries ≡ slice_split (λ b. nat_eq b comma) word → ((sides : List SideWeight) → All IsEntrySide sides → AllZip SpellsEntry entries sides → ⊥) → (sides : List SideWeight) → SpellsSides word sides → ⊥
+not_spelled word entries cut none sides spells = none sides (each_side word sides spells) (same_entries word entries sides cut spells)
 
-pub not_spelled : (word : List ℕ) (entries : List (List ℕ)) → entries ≡ slice_split (λ b. nat_eq b comma) word → ((sides : List SideWeight) → All IsSide sides → AllZip SpellsEntry entries sides → ⊥) → (sides : List SideWeight) → SpellsSides word sides → ⊥
-not_spelled word entries cut none sides spells = none sides spells.are.each (same_entries word entries sides cut spells)
+pub not_sides : (word : List ℕ) (entries : List (List ℕ)) (read : List SideWeight) → entries ≡ slice_split (λ b. nat_eq b comma) word → All IsEntrySide read → AllZip SpellsEntry entries read → (AreSides read → ⊥) → (sides : List SideWeight) → SpellsSides word sides → ⊥
+not_sides word entries read cut whole each others sides spells =
+    others (subst AreSides (one_list entries sides read (each_side word sides spells) whole (same_entries word entries sides cut spells) each) spells.are)
 
-pub not_rising : (word : List ℕ) (entries : List (List ℕ)) (read : List SideWeight) → entries ≡ slice_split (λ b. nat_eq b comma) word → All IsSide read → AllZip SpellsEntry entries read → (AllPairs (λ s t. s.cells < t.cells) read → ⊥) → (sides : List SideWeight) → SpellsSides word sides → ⊥
-not_rising word entries read cut are each falls sides spells =
-    let same = one_list entries sides read spells.are.each are (same_entries word entries sides cut spells) each in
-    falls (subst (λ list. AllPairs (λ (s t : SideWeight). s.cells < t.cells) list) same spells.are.rising)
-
-pub spelled : (word : List ℕ) (entries : List (List ℕ)) (sides : List SideWeight) → entries ≡ slice_split (λ b. nat_eq b comma) word → length entries ≤ 8 → All IsSide sides → AllZip SpellsEntry entries sides → AllPairs (λ s t. s.cells < t.cells) sides → SpellsSides word sides
-spelled word entries sides cut few are each rising =
-    let long = AllZip-long SpellsEntry entries sides each in
-    let some = ap length cut ∙ length-slice_split (λ b. nat_eq b comma) word in
-    record {
-      entries = entries;
-      joined = sym (ap (λ es. join_with_byte comma es) cut ∙ join_with_byte-slice_split comma word);
-      each = each;
-      are = record { some = omega (arith, long, some); few = omega (arith, long, few); each = are; rising = rising };
-    }
-
-pub map_few : (entries : List (Bor (List ℕ))) → length entries ≤ 8 → length (map (λ e. e.now) entries) ≤ 8
-map_few entries few = omega (arith, length-map entries (λ (e : Bor (List ℕ)). e.now), few)
-
--- sides that a word spells can be counted together
-pub counted : (sides : List SideWeight) → AreSides sides → AreCounted sides
-counted sides are = record {
-  some = are.some;
-  few = are.few;
-  each = λ k d within. let side = are.each k d within in let some = side.some in record { some = omega (arith, some); small = side.small; counts = side.counts; light = side.light };
-  rising = record { each = λ k within. are.rising k (k + 1) no_side (omega arith) within };
+pub spelled : (word : List ℕ) (entries : List (List ℕ)) (sides : List SideWeight) → entries ≡ slice_split (λ b. nat_eq b comma) word → All IsEntrySide sides → AllZip SpellsEntry entries sides → AreSides sides → SpellsSides word sides
+spelled word entries sides cut whole each are = record {
+  entries = entries;
+  joined = sym (ap (λ es. join_with_byte comma es) cut ∙ join_with_byte-slice_split comma word);
+  each = each;
+  are = are;
+  even = λ k d within. (whole k d within).even;
 }
+
+-- ---- the printed word
+
+printed_entry : (side : SideWeight) → SpellsEntry (entry_text side) side
+printed_entry side = by_test (nat_eq side.weight 1) refl where
+  by_test : (t : Bool) → nat_eq side.weight 1 ≡ t → SpellsEntry (concat (decimal (size_of side) ∷ (if t then [] else codes ":" ∷ decimal side.weight ∷ []))) side
+  by_test true is = inl (append-nil (decimal (size_of side)), grind (arith, nat_tests, is))
+  by_test false is = inr (ap (λ l. decimal (size_of side) ++ (codes ":" ++ l)) (append-nil (decimal side.weight)))
+
+printed_entries : (sides : List SideWeight) → AllZip SpellsEntry (map entry_text sides) sides
+printed_entries [] = tt
+printed_entries (side ∷ sides) = (printed_entry side, printed_entries sides)
+
+-- the word that is printed spells the sides
+pub printed : (word : List ℕ) (sides : List SideWeight) → SpellsSides word sides → SpellsSides (sides_text sides) sides
+printed word sides spells = record { entries = map entry_text sides; joined = refl; each = printed_entries sides; are = spells.are; even = spells.even }

@@ -1,26 +1,21 @@
 -- The word SIDES: 1 to 8 entries joined by `,`. An entry is `S` or `S:W`, where S is the side of a square defect in
 -- hundredths of a micron, from 1 to 32,768, and W is its weight, from 1 to 30. `S` alone has the weight 1.
-use Rattle.std.specs.Prelude.{◌≡◌, ℕ, ◌/◌, ◌%◌, ◌<◌, ◌≤◌, ◌⊎◌, List, [], ◌∷◌, ◌++◌, length, map, codes, nat_eq, if◌then◌else◌, All, AllPairs}
+use Rattle.std.specs.Prelude.{◌≡◌, ℕ, ◌/◌, ◌%◌, ◌⊎◌, List, [], ◌∷◌, ◌++◌, map, codes, nat_eq, if◌then◌else◌, All}
 use Rattle.std.specs.List.{AllZip, concat, join_with_byte}
 use Rattle.std.specs.Fmt.{decimal}
 use Rattle.defect_sweep.specs.declared.sides.SideWeight.{SideWeight}
+use Rattle.defect_sweep.specs.Sides.{IsSide, AreSides}
 
--- A square has an even number of cells a side, from 2 to 65,536, and a weight from 1 to 30.
-pub record IsSide (side : SideWeight) : Type 0 where
-  pub even : side.cells % 2 ≡ 0
-  pub some : 2 ≤ side.cells
-  pub small : side.cells ≤ 65536
-  pub counts : 1 ≤ side.weight
-  pub light : side.weight ≤ 30
+-- the side is a whole number of hundredths of a micron, each of which is two cells
+abbrev pub IsEven : SideWeight → Type 0
+IsEven side = side.cells % 2 ≡ 0
 
--- There are 1 to 8 sides, each greater than the one before it.
-pub record AreSides (sides : List SideWeight) : Type 0 where
-  pub some : 1 ≤ length sides
-  pub few : length sides ≤ 8
-  pub each : All IsSide sides
-  pub rising : AllPairs (λ s t. s.cells < t.cells) sides
+-- an entry can spell this side: it can be counted, and is even
+pub record IsEntrySide (side : SideWeight) : Type 0 where
+  pub counted : IsSide side
+  pub even : IsEven side
 
--- the side in hundredths of a micron, each of which is two cells
+-- the side in hundredths of a micron
 abbrev pub size_of : SideWeight → ℕ
 size_of side = side.cells / 2
 
@@ -32,12 +27,13 @@ SpellsEntry entry side = ((entry ≡ decimal (size_of side)) × (side.weight ≡
 abbrev pub comma : ℕ
 comma = 44
 
--- The word's entries, with a `,` between each two, spell these sides, one each.
+-- The word's entries, with a `,` between each two, spell these sides, one each: 1 to 8, each greater than the one before it.
 pub record SpellsSides (word : List ℕ) (sides : List SideWeight) : Type 0 where
   pub entries : List (List ℕ)
   pub joined : word ≡ join_with_byte comma entries
   pub each : AllZip SpellsEntry entries sides
   pub are : AreSides sides
+  pub even : All IsEven sides
 
 -- ---- how sides are printed
 

@@ -4,7 +4,7 @@ ghost use Rattle.std.specs.Prelude.{◌≡◌, ℕ, List, Some};
 ghost use Rattle.probe_io.specs.Files.{File};
 ghost use Rattle.defect_sweep.specs.declared.sides.SideWeight.{SideWeight};
 ghost use Rattle.carafe_core.specs.declared.status.Refusal.{Refusal};
-ghost use Rattle.carafe_core.specs.Sides.{SpellsSides};
+ghost use Rattle.carafe_core.specs.Sides.{SpellsSides, sides_text};
 ghost use Rattle.solve_report.specs.declared.ending.Ending.{Ending};
 ghost use Rattle.carafe_core.specs.Causes.{IsBridgesReportOf, IsSolveReportOf, Cause};
 
@@ -20,7 +20,8 @@ pub fn one_answer()
         → IsSolveReportOf words (Some files) ending text → Cause r words (Some files) → ⊥ }
 {}
 
-/// A word spells one list of sides at most.
+/// A word spells one list of sides at most, and the word that a report prints spells the sides that were asked for.
 pub fn one_list_of_sides()
-    ensures { (word : List ℕ) (sides others : List SideWeight) → SpellsSides word sides → SpellsSides word others → sides ≡ others }
+    ensures one { (word : List ℕ) (sides others : List SideWeight) → SpellsSides word sides → SpellsSides word others → sides ≡ others }
+    ensures printed { (word : List ℕ) (sides : List SideWeight) → SpellsSides word sides → SpellsSides (sides_text sides) sides }
 {}

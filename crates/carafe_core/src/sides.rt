@@ -1,13 +1,13 @@
 //! The sides of the square defects that a call asks for.
 
-ghost use Rattle.std.specs.Prelude.{◌≡◌, ◌==◌, ℕ, ◌≤◌, ◌<◌, ◌↔◌, List, IsTrue, All, AllPairs, map, IfOk, IfSome, IfNone};
+ghost use Rattle.std.specs.Prelude.{◌≡◌, ◌==◌, ℕ, ◌≤◌, List, All, map, IfOk, IfSome, IfNone};
 ghost use Rattle.std.specs.Fmt.{decimal};
 ghost use Rattle.std.specs.List.{slice_split, AllZip};
 ghost use Rattle.defect_sweep.specs.declared.sides.SideWeight.{SideWeight};
-ghost use Rattle.carafe_core.specs.Sides.{comma, size_of, IsSide, SpellsEntry, SpellsSides};
+ghost use Rattle.carafe_core.specs.Sides.{comma, size_of, IsEntrySide, SpellsEntry, SpellsSides};
 
 use crate::numbers::read_number;
-use defect_sweep::SideWeight;
+use defect_sweep::{SideWeight, are_sides};
 use std::alloc::{AllocError, Global};
 
 /// The greatest side of a defect, in hundredths of a micron.
@@ -16,22 +16,16 @@ const MAX_SIZE: u32 = 32_768;
 /// The greatest weight.
 const MAX_WEIGHT: u32 = 30;
 
-/// The most sides of a call.
-const MAX_SIDES: usize = 8;
-
 /// The sides that the word spells, or `None` where it spells none.
 pub fn read_sides(alloc: Global, word: &str) -> Result<Option<Vec<SideWeight>>, AllocError>
     ensures found { IfOk result (λ found. IfSome found (λ sides. SpellsSides word.now sides.items)) }
     ensures none { IfOk result (λ found. IfNone found ((sides : List SideWeight) → SpellsSides word.now sides → ⊥)) }
 {
     let entries = split_entries(alloc, word)?;
-    if entries.len() > MAX_SIDES {
-        return Ok(None);
-    }
     let Some(sides) = read_entries(alloc, entries.as_slice())? else {
         return Ok(None);
     };
-    if are_rising(sides.as_slice()) {
+    if are_sides(sides.as_slice()) {
         Ok(Some(sides))
     } else {
         Ok(None)
@@ -47,8 +41,8 @@ fn split_entries(alloc: Global, word: &str) -> Result<Vec<&str>, AllocError>
 
 /// The sides that the entries spell, or `None` where one of them spells none.
 fn read_entries(alloc: Global, entries: &[&str]) -> Result<Option<Vec<SideWeight>>, AllocError>
-    ensures found { IfOk result (λ found. IfSome found (λ sides. All IsSide sides.items × AllZip SpellsEntry (map (λ e. e.now) entries.now) sides.items)) }
-    ensures none { IfOk result (λ found. IfNone found ((sides : List SideWeight) → All IsSide sides → AllZip SpellsEntry (map (λ e. e.now) entries.now) sides → ⊥)) }
+    ensures found { IfOk result (λ found. IfSome found (λ sides. All IsEntrySide sides.items × AllZip SpellsEntry (map (λ e. e.now) entries.now) sides.items)) }
+    ensures none { IfOk result (λ found. IfNone found ((sides : List SideWeight) → All IsEntrySide sides → AllZip SpellsEntry (map (λ e. e.now) entries.now) sides → ⊥)) }
 {
     let mut sides = Vec::new(alloc);
     for entry in entries {
@@ -62,8 +56,8 @@ fn read_entries(alloc: Global, entries: &[&str]) -> Result<Option<Vec<SideWeight
 
 /// The side that the entry spells, or `None` where it spells none.
 fn read_entry(entry: &str) -> Option<SideWeight>
-    ensures found { IfSome result (λ side. IsSide side × SpellsEntry entry.now side) }
-    ensures none { IfNone result ((side : SideWeight) → IsSide side → SpellsEntry entry.now side → ⊥) }
+    ensures found { IfSome result (λ side. IsEntrySide side × SpellsEntry entry.now side) }
+    ensures none { IfNone result ((side : SideWeight) → IsEntrySide side → SpellsEntry entry.now side → ⊥) }
 {
     match entry.split_once(':') {
         None => read_size(entry, 1),
@@ -75,7 +69,7 @@ fn read_entry(entry: &str) -> Option<SideWeight>
 fn read_size(text: &str, weight: u32) -> Option<SideWeight>
     requires counts { 1 ≤ weight }
     requires light { weight ≤ 30 }
-    ensures found { IfSome result (λ side. IsSide side × (side.weight ≡ weight) × (text.now ≡ decimal (size_of side))) }
+    ensures found { IfSome result (λ side. IsEntrySide side × (side.weight ≡ weight) × (text.now ≡ decimal (size_of side))) }
     ensures none { IfNone result ((n : ℕ) → 1 ≤ n → n ≤ 32768 → text.now ≡ decimal n → ⊥) }
 {
     let size = read_number(text, MAX_SIZE)?;
@@ -83,28 +77,4 @@ fn read_size(text: &str, weight: u32) -> Option<SideWeight>
         cells: 2 * size,
         weight,
     })
-}
-
-/// Whether each side is greater than the one before it.
-fn are_rising(sides: &[SideWeight]) -> bool
-    ensures { IsTrue result ↔ AllPairs (λ s t. s.cells < t.cells) sides.now }
-{
-    for (i, side) in sides.iter().enumerate() {
-        if !is_below_all(side.cells, &sides[i + 1..]) {
-            return false;
-        }
-    }
-    true
-}
-
-/// Whether each of the sides has more cells.
-fn is_below_all(cells: u32, sides: &[SideWeight]) -> bool
-    ensures { IsTrue result ↔ All (λ s. cells < s.cells) sides.now }
-{
-    for side in sides {
-        if side.cells <= cells {
-            return false;
-        }
-    }
-    true
 }

@@ -120,66 +120,68 @@ fn call_over(
     Ok(Ending { status, out, diag })
 }
 
+/// Words, layouts on a map of one wire, and the reports on them.
+const REPORTS: [(&str, &str, &str); 11] = [
+    (
+        "bridges map cif 3",
+        TWO_BOXES,
+        "carafe bridges 1\nside 3\nnets 2\nlabels 2 0 0\nbridges 1\nbridge 1 Vdd GND 25 metal=25\ntally bridges 1\n",
+    ),
+    (
+        "bridges map cif 2",
+        TWO_BOXES,
+        "carafe bridges 1\nside 2\nnets 2\nlabels 2 0 0\nbridges 0\ntally bridges 0\n",
+    ),
+    (
+        "bridges map cif 3",
+        NOISY,
+        "carafe bridges 1\nside 3\nnets 2\nlabels 2 0 0\nbridges 1\nbridge 1 Vdd GND 25 metal=25\ntally bridges 1\n",
+    ),
+    (
+        "bridges map cif 3",
+        TWO_PIECES,
+        "carafe bridges 1\nside 3\nnets 2\nlabels 3 0 0\nbridges 1\nbridge 1 Vdd GND 50 metal=50\ntally bridges 1\n",
+    ),
+    (
+        "bridges map cif 3",
+        "DS 1; L CMF; B 2 2 1 1; 94 x 1 1; DF; DS 2; C 1; DF; C 2; E",
+        "carafe bridges 1\nside 3\nnets 1\nlabels 0 0 1\nbridges 0\ntally bridges 0\n",
+    ),
+    (
+        "bridges map cif 15",
+        TWO_PIECES,
+        "carafe bridges 1\nside 15\nnets 2\nlabels 3 0 0\nbridges 1\nbridge 1 Vdd GND 2401 metal=2401\ntally bridges 1\n",
+    ),
+    (
+        "bridges map cif 1",
+        CORNER,
+        "carafe bridges 1\nside 1\nnets 2\nlabels 2 0 0\nbridges 1\nbridge 1 Vdd GND 1 metal=1\ntally bridges 1\n",
+    ),
+    (
+        "bridges map cif 7",
+        THREE_BOXES,
+        "carafe bridges 1\nside 7\nnets 3\nlabels 2 0 0\nbridges 3\nbridge 1 Vdd GND 297 metal=297\nbridge 2 GND #2 297 metal=297\nbridge 3 Vdd #2 33 metal=33\ntally bridges 3\n",
+    ),
+    (
+        "bridges map cif 32768",
+        "E",
+        "carafe bridges 1\nside 32768\nnets 0\nlabels 0 0 0\nbridges 0\ntally bridges 0\n",
+    ),
+    (
+        "bridges map cif 1",
+        "L CMF; B 10 10 5 5; 94 b 5 5; 94 a 4 4; 94 aa 6 6; E",
+        "carafe bridges 1\nside 1\nnets 1\nlabels 3 0 0\nbridges 0\ntally bridges 0\n",
+    ),
+    (
+        "bridges map cif 2",
+        "L CMF; B 2 2 -4 1; B 2 2 -1 1; 94 b -4 1; 94 a -4 1; E",
+        "carafe bridges 1\nside 2\nnets 2\nlabels 2 0 0\nbridges 1\nbridge 1 a #1 7 metal=7\ntally bridges 1\n",
+    ),
+];
+
 #[test]
 fn reports_are_whole(rt: HostRuntime) -> Result<(), Fail> {
-    let rows = [
-        (
-            "bridges map cif 3",
-            TWO_BOXES,
-            "carafe bridges 1\nside 3\nnets 2\nlabels 2 0 0\nbridges 1\nbridge 1 Vdd GND 25 metal=25\ntally bridges 1\n",
-        ),
-        (
-            "bridges map cif 2",
-            TWO_BOXES,
-            "carafe bridges 1\nside 2\nnets 2\nlabels 2 0 0\nbridges 0\ntally bridges 0\n",
-        ),
-        (
-            "bridges map cif 3",
-            NOISY,
-            "carafe bridges 1\nside 3\nnets 2\nlabels 2 0 0\nbridges 1\nbridge 1 Vdd GND 25 metal=25\ntally bridges 1\n",
-        ),
-        (
-            "bridges map cif 3",
-            TWO_PIECES,
-            "carafe bridges 1\nside 3\nnets 2\nlabels 3 0 0\nbridges 1\nbridge 1 Vdd GND 50 metal=50\ntally bridges 1\n",
-        ),
-        (
-            "bridges map cif 3",
-            "DS 1; L CMF; B 2 2 1 1; 94 x 1 1; DF; DS 2; C 1; DF; C 2; E",
-            "carafe bridges 1\nside 3\nnets 1\nlabels 0 0 1\nbridges 0\ntally bridges 0\n",
-        ),
-        (
-            "bridges map cif 15",
-            TWO_PIECES,
-            "carafe bridges 1\nside 15\nnets 2\nlabels 3 0 0\nbridges 1\nbridge 1 Vdd GND 2401 metal=2401\ntally bridges 1\n",
-        ),
-        (
-            "bridges map cif 1",
-            CORNER,
-            "carafe bridges 1\nside 1\nnets 2\nlabels 2 0 0\nbridges 1\nbridge 1 Vdd GND 1 metal=1\ntally bridges 1\n",
-        ),
-        (
-            "bridges map cif 7",
-            THREE_BOXES,
-            "carafe bridges 1\nside 7\nnets 3\nlabels 2 0 0\nbridges 3\nbridge 1 Vdd GND 297 metal=297\nbridge 2 GND #2 297 metal=297\nbridge 3 Vdd #2 33 metal=33\ntally bridges 3\n",
-        ),
-        (
-            "bridges map cif 32768",
-            "E",
-            "carafe bridges 1\nside 32768\nnets 0\nlabels 0 0 0\nbridges 0\ntally bridges 0\n",
-        ),
-        (
-            "bridges map cif 1",
-            "L CMF; B 10 10 5 5; 94 b 5 5; 94 a 4 4; 94 aa 6 6; E",
-            "carafe bridges 1\nside 1\nnets 1\nlabels 3 0 0\nbridges 0\ntally bridges 0\n",
-        ),
-        (
-            "bridges map cif 2",
-            "L CMF; B 2 2 -4 1; B 2 2 -1 1; 94 b -4 1; 94 a -4 1; E",
-            "carafe bridges 1\nside 2\nnets 2\nlabels 2 0 0\nbridges 1\nbridge 1 a #1 7 metal=7\ntally bridges 1\n",
-        ),
-    ];
-    for (words, cif, report) in rows {
+    for (words, cif, report) in REPORTS {
         let ending = call(rt.alloc(), words, cif, &NONE)?;
         assert_eq!(rt; ending.status, Status::Done, "{words}");
         assert_eq!(rt; ending.out.bytes(), report.as_bytes(), "{words}");
@@ -544,6 +546,33 @@ fn formulas_are_refused_at_their_place(rt: HostRuntime) -> Result<(), Fail> {
         assert_eq!(rt; ending.status.exit_number(), 2, "{text}");
         assert_eq!(rt; ending.diag.bytes(), line.as_bytes(), "{text}");
         assert_eq!(rt; ending.out.bytes().len(), 0, "{text}");
+    }
+    Ok(())
+}
+
+/// Formulas that determine the whole report of a search, and that report.
+const SEARCHES: [(&str, &str); 3] = [
+    (
+        "p cnf 1 1\n0\n",
+        "carafe solve 1\nbudget 7\nformula 1 1\nf 0\nd 2 0 1 0\nrefuted\n",
+    ),
+    (
+        "p cnf 1 1\n1 0\n",
+        "carafe solve 1\nbudget 7\nformula 1 1\nf 1 0\nvalues 1 0\n",
+    ),
+    (
+        "p cnf 2 3\n2 -1 0\n1 0\n2 2 0\n",
+        "carafe solve 1\nbudget 7\nformula 2 3\nf -1 2 0\nf 1 0\nf 2 0\nvalues 1 2 0\n",
+    ),
+];
+
+#[test]
+fn searches_are_reported(rt: HostRuntime) -> Result<(), Fail> {
+    for (text, report) in SEARCHES {
+        let ending = call_search(rt.alloc(), "solve formula 7", text, &NONE)?;
+        assert_eq!(rt; ending.status, Status::Done, "{text}");
+        assert_eq!(rt; ending.out.bytes(), report.as_bytes(), "{text}");
+        assert_eq!(rt; ending.diag.bytes().len(), 0, "{text}");
     }
     Ok(())
 }

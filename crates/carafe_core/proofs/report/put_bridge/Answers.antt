@@ -5,7 +5,7 @@ use Rattle.layer_map.specs.declared.map.WireId.{WireId}
 use Rattle.probe_io.proofs.CauseLemmas.{on_err}
 use Rattle.probe_io.proofs.WrittenLemmas.{Appends-front, AppendsFront-more}
 use Rattle.carafe_core.specs.Report.{bridge_start, wire_count, line_names}
-use Rattle.carafe_core.proofs.LineLemmas.{Front-is}
+use Rattle.probe_io.proofs.Texts.{Front-is}
 use Rattle.carafe_core.proofs.report.put_bridge.Goals as goal
 
 pub returns-in_err-put_counts-clause-front : goal.returns-in_err-put_counts-clause-front

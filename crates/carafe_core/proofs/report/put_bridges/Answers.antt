@@ -1,8 +1,9 @@
-use Rattle.std.proofs.Common.{◌+◌, ap, arith}
+use Rattle.std.proofs.Common.{◌+◌, ap, rules}
 use Rattle.probe_io.proofs.CauseLemmas.{on_err}
 use Rattle.defect_sweep.specs.Counting.{Count}
 use Rattle.carafe_core.specs.Report.{line_names, bridge_line}
-use Rattle.carafe_core.proofs.LineLemmas.{Appends-line, AppendsFront-line, Front-is, Whole-is}
+use Rattle.probe_io.proofs.Texts.{Front-is, Whole-is}
+use Rattle.carafe_core.proofs.LineLemmas.{Appends-line, AppendsFront-line}
 use Rattle.carafe_core.proofs.report.put_bridges.Goals as goal
 
 pub returns-in_err-put_bridge-clause-front : goal.returns-in_err-put_bridge-clause-front
@@ -12,5 +13,5 @@ returns-in_err-put_bridge-clause-front g c =
 pub loop-i-preserved : goal.loop-i-preserved
 loop-i-preserved g c = record {
   written = Appends-line (line_names c.args.wires.now) c.args.names.now c.args.ranked.now c.loop-i.i c.index-ranked-i.result c.loop-i-test.true c.loop-i.invariant.written (Whole-is (ap (λ (b : Count). bridge_line (line_names c.args.wires.now) c.args.names.now (c.loop-i.i + 1) b) c.index-ranked-i.is) c.in_ok-put_bridge.ensures.ok);
-  later = omega (arith, c.loop-i.invariant.later, c.put_bridge.ensures.cause.later);
+  quiet = search rules;
 }

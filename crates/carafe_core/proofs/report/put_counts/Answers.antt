@@ -1,6 +1,6 @@
 use Rattle.probe_io.proofs.CauseLemmas.{on_err}
 use Rattle.carafe_core.specs.Report.{wire_count, line_names}
-use Rattle.carafe_core.proofs.LineLemmas.{AppendsFront-text}
+use Rattle.probe_io.proofs.Texts.{AppendsFront-text}
 use Rattle.carafe_core.proofs.report.put_counts.Goals as goal
 
 pub returns-in_err-put_count-clause-front : goal.returns-in_err-put_count-clause-front

@@ -1,6 +1,6 @@
 use Rattle.probe_io.proofs.CauseLemmas.{on_err}
 use Rattle.carafe_core.specs.Sides.{next_text}
-use Rattle.carafe_core.proofs.LineLemmas.{AppendsFront-text}
+use Rattle.probe_io.proofs.Texts.{AppendsFront-text}
 use Rattle.carafe_core.proofs.report.put_next_sides.Goals as goal
 
 pub returns-in_err-put_side-clause-front : goal.returns-in_err-put_side-clause-front

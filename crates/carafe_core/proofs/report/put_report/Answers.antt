@@ -1,5 +1,6 @@
 use Rattle.std.proofs.lemmas.Result.{on_ok_weaker, on_err_weaker}
-use Rattle.carafe_core.proofs.LineLemmas.{Front-is, Whole-is, text_is}
+use Rattle.probe_io.proofs.Texts.{Front-is, Whole-is}
+use Rattle.carafe_core.proofs.LineLemmas.{text_is}
 use Rattle.carafe_core.proofs.report.put_report.Goals as goal
 
 pub returns-clause-ok : goal.returns-clause-ok

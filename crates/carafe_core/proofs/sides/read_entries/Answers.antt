@@ -1,5 +1,5 @@
 use Rattle.std.proofs.lemmas.List.Elements.{All-push}
-use Rattle.carafe_core.specs.Sides.{IsSide}
+use Rattle.carafe_core.specs.Sides.{IsEntrySide}
 use Rattle.carafe_core.proofs.SideLemmas.{read_more, not_read}
 use Rattle.carafe_core.proofs.sides.read_entries.Goals as goal
 
@@ -10,6 +10,6 @@ returns-in_default-clause-none c sides are each =
 pub loop-entry-preserved : goal.loop-entry-preserved
 loop-entry-preserved c =
     rw c.in_ok-push.ensures.items (record {
-      sides = All-push IsSide c.loop-entry.sides.items c.in-Some.side c.loop-entry.invariant.sides c.in-Some.ensures.found.0;
+      sides = All-push IsEntrySide c.loop-entry.sides.items c.in-Some.side c.loop-entry.invariant.sides c.in-Some.ensures.found.0;
       each = read_more c.args.entries.now c.loop-entry.entry-index _ c.loop-entry.sides.items c.in-Some.side c.loop-entry-test.true c.loop-entry.invariant.each c.in-Some.ensures.found.1;
     })

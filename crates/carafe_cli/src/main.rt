@@ -5,6 +5,7 @@
 
 ghost use Rattle.std.specs.Prelude.{◌≡◌, [], map, drop, string_bytes, IfOk, IfErr, OnOk, OnErr};
 ghost use Rattle.std.specs.IoError.{error_kind};
+ghost use Rattle.std.specs.Vec.Iter.{into_iter_items};
 
 use carafe_core::{Status, carafe};
 use probe_io::{FileShelf, Name, StreamSink};
@@ -32,28 +33,26 @@ fn main(rt: HostRuntime) -> ExitCode {
 
 /// The words behind the program's name; none where an argument is no text.
 fn read_arguments(alloc: Global, arguments: io::Result<Args>) -> Result<Vec<Name>, AllocError>
+    ensures words { IfOk arguments (λ args. IfOk result (λ words. words.items ≡ drop 1 (map string_bytes (into_iter_items args)))) }
     ensures none { OnErr arguments (IfOk result (λ words. words.items ≡ [])) }
     ensures memory { IfErr arguments (λ error. error_kind error ≡ ErrorKind.OutOfMemory → OnOk result ⊥) }
 {
     match arguments {
-        Ok(arguments) => {
-            let arguments: Vec<String> = arguments.collect(alloc)?;
-            words_behind(alloc, arguments.as_slice())
+        Ok(mut arguments) => {
+            let _program = arguments.next();
+            words_of(alloc, arguments)
         }
         Err(error) if error.kind() == ErrorKind::OutOfMemory => Err(AllocError),
         Err(_) => Ok(Vec::new(alloc)),
     }
 }
 
-/// The words behind the first of these.
-fn words_behind(alloc: Global, arguments: &[String]) -> Result<Vec<Name>, AllocError>
-    ensures { IfOk result (λ words. words.items ≡ drop 1 (map string_bytes arguments.now)) }
+/// The arguments as words, in their order.
+fn words_of(alloc: Global, arguments: Args) -> Result<Vec<Name>, AllocError>
+    ensures { IfOk result (λ words. words.items ≡ map string_bytes (into_iter_items arguments)) }
 {
     let mut words = Vec::new(alloc);
-    let Some((_, rest)) = arguments.split_first() else {
-        return Ok(words);
-    };
-    for argument in rest {
+    for argument in arguments {
         words.push(Name::new(alloc, argument.as_str())?)?;
     }
     Ok(words)

@@ -1,5 +1,5 @@
 -- What each status says of the call that gives it.
-use Rattle.std.specs.Prelude.{◌≡◌, ℕ, ◌<◌, ◌^◌, ◌⊎◌, List, [], ◌∷◌, Option, Some, codes}
+use Rattle.std.specs.Prelude.{◌≡◌, ℕ, ◌<◌, ◌^◌, ◌⊎◌, Bool, true, false, List, [], ◌∷◌, Option, Some, codes}
 use Rattle.std.specs.List.{concat}
 use Rattle.std.specs.Fmt.{decimal}
 use Rattle.probe_io.specs.Files.{File, Lacks, IsFileOver}
@@ -209,6 +209,10 @@ text before after = record { before = before; after = after }
 abbrev pub HasRisen : Count → Type 0
 HasRisen count = Rose count.before count.after
 
+-- no call on the device failed: the count is what it was
+pub record IsQuiet (count : Count) : Type 0 where
+  pub same : count.after ≡ count.before
+
 -- nothing was written in the call
 pub record IsUnwritten (text : Text) : Type 0 where
   pub same : text.after ≡ text.before
@@ -231,6 +235,11 @@ shown files starts starts' reads reads' = record {
   starts = count starts starts';
   reads = count reads reads';
 }
+
+-- no file failed to be started, and no read failed
+pub record IsShelfQuiet (shelf : Shown) : Type 0 where
+  pub starts : IsQuiet shelf.starts
+  pub reads : IsQuiet shelf.reads
 
 -- a file of this name could not be started: the shelf failed in this call, or tells that it has no such file
 pub record IsOpenFault (shelf : Shown) (name : List ℕ) : Type 0 where
@@ -400,6 +409,43 @@ IsAnswer words shelf out diag out_faults diag_faults (Refused refusal) = IsToldO
 IsAnswer words shelf out diag out_faults diag_faults (OpenFault which) = IsToldOutcome words shelf out diag out_faults diag_faults (OpenFault which)
 IsAnswer words shelf out diag out_faults diag_faults (ReadFault which) = IsToldOutcome words shelf out diag out_faults diag_faults (ReadFault which)
 IsAnswer words shelf out diag out_faults diag_faults NoMemory = IsToldOutcome words shelf out diag out_faults diag_faults NoMemory
+
+-- the statuses that tell of a failed start, of a failed read, and of a report that may be cut off
+abbrev pub is_open_fault : Status → Bool
+is_open_fault (OpenFault which) = true
+is_open_fault _ = false
+
+abbrev pub is_read_fault : Status → Bool
+is_read_fault (ReadFault which) = true
+is_read_fault _ = false
+
+abbrev pub is_cut_off : Status → Bool
+is_cut_off (WriteFault Out) = true
+is_cut_off NoMemory = true
+is_cut_off _ = false
+
+-- the statuses that stand whatever becomes of their line, or tell that the line could not be written
+abbrev pub may_be_untold : Status → Bool
+may_be_untold Done = false
+may_be_untold DoneUndecided = false
+may_be_untold (Refused refusal) = false
+may_be_untold _ = true
+
+-- a start that failed, and a read that failed, is told by the status
+pub record TellsShelfFaults (shelf : Shown) (status : Status) : Type 0 where
+  pub starts : is_open_fault status ≡ false → IsQuiet shelf.starts
+  pub reads : is_read_fault status ≡ false → IsQuiet shelf.reads
+
+-- a write of the report that failed is told by the status
+abbrev pub TellsCutOff : Count → Status → Type 0
+TellsCutOff out_faults status = is_cut_off status ≡ false → IsQuiet out_faults
+
+-- No call on a device fails unknown: the status tells of a failed start, of a failed read, and of a failed write of the
+-- report, and where no line was owed, or it was told, no write of one failed.
+pub record TellsFaults (shelf : Shown) (out_faults diag_faults : Count) (status : Status) : Type 0 where
+  pub shelf_faults : TellsShelfFaults shelf status
+  pub cut_off : TellsCutOff out_faults status
+  pub line : may_be_untold status ≡ false → IsQuiet diag_faults
 
 -- a device failed, or no memory was found, before there was an answer on the input
 abbrev pub IsInterrupted : Status → Type 0

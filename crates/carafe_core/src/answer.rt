@@ -1,7 +1,7 @@
 //! The top call.
 
 ghost use Rattle.std.specs.Prelude.{◌≡◌, ℕ, ◌≤◌};
-ghost use Rattle.carafe_core.specs.Answers.{count, text, shown, IsOutcome, IsAnswer, RefusesWhere, ReportsWhere};
+ghost use Rattle.carafe_core.specs.Answers.{count, text, shown, IsOutcome, IsAnswer, RefusesWhere, ReportsWhere, TellsShelfFaults, TellsCutOff, TellsFaults};
 
 use crate::bridges::report_bridges;
 use crate::settings::{Command, read_words};
@@ -12,9 +12,12 @@ use std::alloc::Global;
 
 /// Reads what the words name and writes the report that they ask for.
 fn report<H: Shelf, K: Sink>(alloc: Global, words: &[Name], shelf: &mut H, out: &mut K) -> Status
-    ensures { IsOutcome words.now (shown (H.files shelf.old) (H.start_faults shelf.old) (H.start_faults shelf.new)
+    ensures outcome { IsOutcome words.now (shown (H.files shelf.old) (H.start_faults shelf.old) (H.start_faults shelf.new)
         (H.read_faults shelf.old) (H.read_faults shelf.new)) (text (K.written out.old) (K.written out.new))
         (count (K.faults out.old) (K.faults out.new)) result }
+    ensures told { TellsShelfFaults (shown (H.files shelf.old) (H.start_faults shelf.old) (H.start_faults shelf.new)
+        (H.read_faults shelf.old) (H.read_faults shelf.new)) result }
+    ensures cut_off { TellsCutOff (count (K.faults out.old) (K.faults out.new)) result }
 {
     match read_words(alloc, words) {
         Ok(Command::Bridges(settings)) => report_bridges(alloc, &settings, shelf, out),
@@ -39,6 +42,9 @@ pub fn carafe<H: Shelf, K: Sink, E: Sink>(
     ensures complete { ReportsWhere words.now (shown (H.files shelf.old) (H.start_faults shelf.old) (H.start_faults shelf.new)
         (H.read_faults shelf.old) (H.read_faults shelf.new)) (count (K.faults out.old) (K.faults out.new))
         (count (E.faults diag.old) (E.faults diag.new)) result }
+    ensures faults { TellsFaults (shown (H.files shelf.old) (H.start_faults shelf.old) (H.start_faults shelf.new)
+        (H.read_faults shelf.old) (H.read_faults shelf.new)) (count (K.faults out.old) (K.faults out.new))
+        (count (E.faults diag.old) (E.faults diag.new)) result }
 {
     answered(alloc, words, shelf, out, diag)
 }
@@ -51,9 +57,12 @@ fn answered<H: Shelf, K: Sink, E: Sink>(
     out: &mut K,
     diag: &mut E,
 ) -> Status
-    ensures { IsAnswer words.now (shown (H.files shelf.old) (H.start_faults shelf.old) (H.start_faults shelf.new)
+    ensures answer { IsAnswer words.now (shown (H.files shelf.old) (H.start_faults shelf.old) (H.start_faults shelf.new)
         (H.read_faults shelf.old) (H.read_faults shelf.new)) (text (K.written out.old) (K.written out.new))
         (text (E.written diag.old) (E.written diag.new)) (count (K.faults out.old) (K.faults out.new))
+        (count (E.faults diag.old) (E.faults diag.new)) result }
+    ensures faults { TellsFaults (shown (H.files shelf.old) (H.start_faults shelf.old) (H.start_faults shelf.new)
+        (H.read_faults shelf.old) (H.read_faults shelf.new)) (count (K.faults out.old) (K.faults out.new))
         (count (E.faults diag.old) (E.faults diag.new)) result }
 {
     let status = report(alloc, words, shelf, out);

@@ -1,10 +1,10 @@
 //! From the names of files to their bytes, and to the layer map and the layout that these spell.
 
-ghost use Rattle.std.specs.Prelude.{◌≡◌, ℕ, ◌^◌, ◌<◌, ◌≤◌, length, IfOk, IfErr};
+ghost use Rattle.std.specs.Prelude.{◌≡◌, ℕ, ◌^◌, ◌<◌, ◌≤◌, length, OnOk, IfOk, IfErr};
 ghost use Rattle.probe_io.specs.Files.{IsFile};
 ghost use Rattle.carafe_core.specs.Settings.{bridges_settings};
 ghost use Rattle.carafe_core.specs.Causes.{longest, too_long, HasPlan, HasFile};
-ghost use Rattle.carafe_core.specs.Answers.{shown, map_refused_as, refused_as, IsUnread, IsBridgesFailure};
+ghost use Rattle.carafe_core.specs.Answers.{shown, map_refused_as, refused_as, IsUnread, IsBridgesFailure, IsShelfQuiet, TellsShelfFaults};
 
 use crate::settings::BridgesSettings;
 use crate::status::{Refusal, Status, Which};
@@ -52,8 +52,10 @@ pub(crate) fn read_file<H: Shelf>(
     ensures failure { IfErr result (IsUnread (shown (H.files shelf.old) (H.start_faults shelf.old)
         (H.start_faults shelf.new) (H.read_faults shelf.old) (H.read_faults shelf.new)) which name.now) }
     ensures same { H.files shelf.new ≡ H.files shelf.old }
-    ensures later_starts { H.start_faults shelf.old ≤ H.start_faults shelf.new }
-    ensures later_reads { H.read_faults shelf.old ≤ H.read_faults shelf.new }
+    ensures quiet { OnOk result (IsShelfQuiet (shown (H.files shelf.old) (H.start_faults shelf.old)
+        (H.start_faults shelf.new) (H.read_faults shelf.old) (H.read_faults shelf.new))) }
+    ensures told { IfErr result (TellsShelfFaults (shown (H.files shelf.old) (H.start_faults shelf.old)
+        (H.start_faults shelf.new) (H.read_faults shelf.old) (H.read_faults shelf.new))) }
 {
     match read_all(alloc, shelf, name.as_str(), which.longest()) {
         Ok(bytes) => Ok(bytes),
@@ -74,8 +76,10 @@ pub(crate) fn read_map<H: Shelf>(
     ensures failure { IfErr result (λ status. IsBridgesFailure (shown (H.files shelf.old) (H.start_faults shelf.old)
         (H.start_faults shelf.new) (H.read_faults shelf.old) (H.read_faults shelf.new)) status (bridges_settings settings.now)) }
     ensures same { H.files shelf.new ≡ H.files shelf.old }
-    ensures later_starts { H.start_faults shelf.old ≤ H.start_faults shelf.new }
-    ensures later_reads { H.read_faults shelf.old ≤ H.read_faults shelf.new }
+    ensures quiet { OnOk result (IsShelfQuiet (shown (H.files shelf.old) (H.start_faults shelf.old)
+        (H.start_faults shelf.new) (H.read_faults shelf.old) (H.read_faults shelf.new))) }
+    ensures told { IfErr result (TellsShelfFaults (shown (H.files shelf.old) (H.start_faults shelf.old)
+        (H.start_faults shelf.new) (H.read_faults shelf.old) (H.read_faults shelf.new))) }
 {
     let bytes = read_file(alloc, shelf, settings.map, Which::Map)?;
     match layer_map::read(alloc, bytes.as_slice()) {
@@ -106,8 +110,10 @@ pub(crate) fn read_cif<H: Shelf>(
     ensures failure { IfErr result (λ status. IsBridgesFailure (shown (H.files shelf.old) (H.start_faults shelf.old)
         (H.start_faults shelf.new) (H.read_faults shelf.old) (H.read_faults shelf.new)) status (bridges_settings settings.now)) }
     ensures same { H.files shelf.new ≡ H.files shelf.old }
-    ensures later_starts { H.start_faults shelf.old ≤ H.start_faults shelf.new }
-    ensures later_reads { H.read_faults shelf.old ≤ H.read_faults shelf.new }
+    ensures quiet { OnOk result (IsShelfQuiet (shown (H.files shelf.old) (H.start_faults shelf.old)
+        (H.start_faults shelf.new) (H.read_faults shelf.old) (H.read_faults shelf.new))) }
+    ensures told { IfErr result (TellsShelfFaults (shown (H.files shelf.old) (H.start_faults shelf.old)
+        (H.start_faults shelf.new) (H.read_faults shelf.old) (H.read_faults shelf.new))) }
 {
     let bytes = read_file(alloc, shelf, settings.cif, Which::Cif)?;
     match cif_reader::read(alloc, bytes.as_slice()) {

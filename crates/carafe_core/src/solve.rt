@@ -1,9 +1,9 @@
 //! The command `solve`.
 
-ghost use Rattle.std.specs.Prelude.{◌≡◌, ℕ, ◌<◌, List, IfOk, IfErr};
+ghost use Rattle.std.specs.Prelude.{◌≡◌, ℕ, ◌<◌, List, OnOk, IfOk, IfErr};
 ghost use Rattle.carafe_core.specs.Settings.{solve_settings, IsSolveCall};
 ghost use Rattle.carafe_core.specs.Causes.{HasFormula};
-ghost use Rattle.carafe_core.specs.Answers.{count, text, shown, formula_refused_as, IsSolveFailure, IsOutcome};
+ghost use Rattle.carafe_core.specs.Answers.{count, text, shown, formula_refused_as, IsSolveFailure, IsOutcome, IsShelfQuiet, TellsShelfFaults, TellsCutOff};
 
 use crate::files::read_file;
 use crate::settings::SolveSettings;
@@ -22,6 +22,10 @@ fn read_formula<H: Shelf>(
     ensures formula { IfOk result (HasFormula (H.files shelf.old) (solve_settings settings.now)) }
     ensures failure { IfErr result (λ status. IsSolveFailure (shown (H.files shelf.old) (H.start_faults shelf.old)
         (H.start_faults shelf.new) (H.read_faults shelf.old) (H.read_faults shelf.new)) status (solve_settings settings.now)) }
+    ensures quiet { OnOk result (IsShelfQuiet (shown (H.files shelf.old) (H.start_faults shelf.old)
+        (H.start_faults shelf.new) (H.read_faults shelf.old) (H.read_faults shelf.new))) }
+    ensures told { IfErr result (TellsShelfFaults (shown (H.files shelf.old) (H.start_faults shelf.old)
+        (H.start_faults shelf.new) (H.read_faults shelf.old) (H.read_faults shelf.new))) }
 {
     let bytes = read_file(alloc, shelf, settings.formula, Which::Formula)?;
     match clause_base::read_formula(alloc, bytes.as_slice()) {
@@ -48,10 +52,13 @@ pub(crate) fn report_search<H: Shelf, K: Sink>(
     out: &mut K,
 ) -> Status
     requires some { 0 < settings.now.budget }
-    ensures { (words : List (List ℕ)) → IsSolveCall words (solve_settings settings.now)
+    ensures outcome { (words : List (List ℕ)) → IsSolveCall words (solve_settings settings.now)
         → IsOutcome words (shown (H.files shelf.old) (H.start_faults shelf.old) (H.start_faults shelf.new)
         (H.read_faults shelf.old) (H.read_faults shelf.new)) (text (K.written out.old) (K.written out.new))
         (count (K.faults out.old) (K.faults out.new)) result }
+    ensures told { TellsShelfFaults (shown (H.files shelf.old) (H.start_faults shelf.old) (H.start_faults shelf.new)
+        (H.read_faults shelf.old) (H.read_faults shelf.new)) result }
+    ensures cut_off { TellsCutOff (count (K.faults out.old) (K.faults out.new)) result }
 {
     let formula = match read_formula(alloc, shelf, settings) {
         Ok(formula) => formula,

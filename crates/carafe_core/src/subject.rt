@@ -1,13 +1,13 @@
 //! From settings to what a report is made on.
 
-ghost use Rattle.std.specs.Prelude.{◌≡◌, ◌≤◌, Err, IfOk, IfErr};
+ghost use Rattle.std.specs.Prelude.{◌≡◌, ◌≤◌, Err, OnOk, IfOk, IfErr};
 ghost use Rattle.defect_sweep.specs.Sides.{AreSides};
 ghost use Rattle.defect_sweep.specs.Bridges.{HasManyBridges};
 ghost use Rattle.carafe_core.specs.Settings.{bridges_settings};
 ghost use Rattle.carafe_core.specs.Causes.{HasPlan, HasNets};
 ghost use Rattle.carafe_core.specs.Report.{IsRanking};
 ghost use Rattle.carafe_core.specs.Subject.{IsSubject};
-ghost use Rattle.carafe_core.specs.Answers.{shown, layout_refused_as, sweep_refused_as, IsBridgesFailure};
+ghost use Rattle.carafe_core.specs.Answers.{shown, layout_refused_as, sweep_refused_as, IsBridgesFailure, IsShelfQuiet, TellsShelfFaults};
 
 use crate::files::{read_cif, read_map};
 use crate::settings::BridgesSettings;
@@ -40,8 +40,10 @@ fn nets_of<H: Shelf>(
     ensures failure { IfErr result (λ status. IsBridgesFailure (shown (H.files shelf.old) (H.start_faults shelf.old)
         (H.start_faults shelf.new) (H.read_faults shelf.old) (H.read_faults shelf.new)) status (bridges_settings settings.now)) }
     ensures same { H.files shelf.new ≡ H.files shelf.old }
-    ensures later_starts { H.start_faults shelf.old ≤ H.start_faults shelf.new }
-    ensures later_reads { H.read_faults shelf.old ≤ H.read_faults shelf.new }
+    ensures quiet { OnOk result (IsShelfQuiet (shown (H.files shelf.old) (H.start_faults shelf.old)
+        (H.start_faults shelf.new) (H.read_faults shelf.old) (H.read_faults shelf.new))) }
+    ensures told { IfErr result (TellsShelfFaults (shown (H.files shelf.old) (H.start_faults shelf.old)
+        (H.start_faults shelf.new) (H.read_faults shelf.old) (H.read_faults shelf.new))) }
 {
     let file = read_cif(alloc, shelf, settings, map)?;
     match name_nets(alloc, &file, map) {
@@ -93,6 +95,10 @@ pub(crate) fn read_subject<H: Shelf>(
     ensures subject { IfOk result (IsSubject (H.files shelf.old) (bridges_settings settings.now)) }
     ensures failure { IfErr result (λ status. IsBridgesFailure (shown (H.files shelf.old) (H.start_faults shelf.old)
         (H.start_faults shelf.new) (H.read_faults shelf.old) (H.read_faults shelf.new)) status (bridges_settings settings.now)) }
+    ensures quiet { OnOk result (IsShelfQuiet (shown (H.files shelf.old) (H.start_faults shelf.old)
+        (H.start_faults shelf.new) (H.read_faults shelf.old) (H.read_faults shelf.new))) }
+    ensures told { IfErr result (TellsShelfFaults (shown (H.files shelf.old) (H.start_faults shelf.old)
+        (H.start_faults shelf.new) (H.read_faults shelf.old) (H.read_faults shelf.new))) }
 {
     let map = read_map(alloc, shelf, settings)?;
     let named = nets_of(alloc, shelf, settings, &map)?;

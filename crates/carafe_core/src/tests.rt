@@ -669,6 +669,18 @@ fn faults_name_their_device(rt: HostRuntime) -> Result<(), Fail> {
     Ok(())
 }
 
+// The map is started at call 0 and read by the next two. Each call behind these would fail.
+#[test]
+fn a_refused_map_leaves_the_layout_unopened(rt: HostRuntime) -> Result<(), Fail> {
+    let words = "bridges map cif 3";
+    let faults = at_shelf(&[3, 4, 5, 6, 7, 8]);
+    let ending = call_on(rt.alloc(), words, "wire metal !CMF", TWO_BOXES, &faults)?;
+    let unbounded = Status::Refused(Refusal::Map(MapRefusal::Unbounded(1)));
+    assert_eq!(rt; ending.status, unbounded);
+    assert_eq!(rt; ending.diag.bytes(), b"carafe: Unbounded 1\n".as_slice());
+    Ok(())
+}
+
 #[test]
 fn a_failed_write_leaves_a_front(rt: HostRuntime) -> Result<(), Fail> {
     let words = "bridges map cif 3";

@@ -1,12 +1,12 @@
 -- A printer of lines: what was written, and the text before it.
-use Rattle.std.proofs.Common.{◌≡◌, ℕ, ◌+◌, Bool, true, false, ◌&&◌, List, [], ◌∷◌, ◌++◌, length, Option, Result, Ok, Err, OnOk, OnErr, refl, sym, ◌∙◌, ap, subst, append_assoc, arith}
+use Rattle.std.proofs.Common.{◌≡◌, ℕ, ◌+◌, Bool, true, false, ◌&&◌, List, [], ◌∷◌, ◌++◌, length, Option, Result, Ok, Err, OnOk, OnErr, refl, sym, ◌∙◌, ap, subst}
 use Rattle.std.specs.Result.{is_err}
 use Rattle.probe_io.specs.Written.{Appends, AppendsFront}
 use Rattle.probe_io.proofs.WrittenLemmas.{Appends-then, Appends-front, AppendsFront-whole}
 use Rattle.proof_sinks.specs.declared.lines.Said.{Said}
 use Rattle.proof_sinks.specs.Text.{line_text, text_of}
 use Rattle.proof_sinks.proofs.LineTexts.{text_more}
-use Rattle.solve_report.specs.Printing.{ArePrinted}
+use Rattle.solve_report.specs.Printing.{ArePrinted, IsQuiet}
 use Rattle.probe_io.proofs.Texts.{Front-is, Whole-is}
 
 -- the text with one line more
@@ -43,3 +43,11 @@ whole_of false whole live = let both : ⊥ = cc in absurd both
 -- a printer that takes another line has printed all
 pub printed_live : {start now : Option (List ℕ)} {said : List Said} (kept whole : Bool) → (kept && whole) ≡ true → ArePrinted start now said whole → ArePrinted start now said true
 printed_live {start} {now} {said} kept whole live printed = subst (λ w. ArePrinted start now said w) (whole_of kept whole live) printed
+
+-- while a printer takes lines, the count of faults is what it was
+pub quiet_live : {before now : ℕ} (kept whole : Bool) → (kept && whole) ≡ true → IsQuiet before now whole → now ≡ before
+quiet_live kept whole live quiet = quiet.same (whole_of kept whole live)
+
+-- nothing is said of the count where a line was torn
+pub torn : (before now : ℕ) → IsQuiet before now false
+torn before now = record { same = λ whole. absurd cc }

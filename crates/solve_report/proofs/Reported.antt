@@ -7,7 +7,7 @@ use Rattle.proof_sinks.specs.Text.{text_of}
 use Rattle.conflict_solver.specs.declared.verdict.Verdict.{Verdict}
 use Rattle.conflict_solver.specs.declared.verdict.Verdict.TheVariants.{Values, Refuted, Undecided}
 use Rattle.conflict_solver.specs.Deriving.{proof_of}
-use Rattle.conflict_solver.specs.Answering.{IsAnswered, IsVerdict}
+use Rattle.conflict_solver.specs.Answering.{IsVerdict}
 use Rattle.solve_report.specs.declared.ending.Ending.{Ending}
 use Rattle.solve_report.specs.Report.{header, verdict_line, ending_of, SolvesWhereValues, IsSortedForm, IsReport, WritesReport, AppendsReportFront}
 use Rattle.solve_report.specs.Printing.{WritesProof, WritesProofFront}

@@ -1,6 +1,6 @@
 //! A report, from its first line to the last.
 
-ghost use Rattle.std.specs.Prelude.{◌≡◌, ◌<◌, ◌≤◌, ◌^◌, Ok, Err, OnErr, IfOk};
+ghost use Rattle.std.specs.Prelude.{◌≡◌, ◌<◌, ◌≤◌, ◌^◌, Ok, Err, OnOk, OnErr, IfOk};
 ghost use Rattle.probe_io.specs.Causes.{Rose};
 ghost use Rattle.solve_report.specs.Report.{WritesReport, WritesFront};
 ghost use Rattle.solve_report.specs.Printing.{WritesProof, WritesProofFront};
@@ -30,6 +30,7 @@ pub fn write<K: Sink>(
     ensures front { OnErr result (WritesFront formula.now budget (K.written out.old) (K.written out.new)) }
     ensures decided { 3 ^ formula.now.vars ≤ budget → result ≡ Ok Ending.Undecided → ⊥ }
     ensures cause { result ≡ Err ReportFault.Write → Rose (K.faults out.old) (K.faults out.new) }
+    ensures quiet { OnOk result (K.faults out.new ≡ K.faults out.old) }
     ensures later { K.faults out.old ≤ K.faults out.new }
 {
     let sorted = sorted_form(alloc, formula)?;
@@ -51,6 +52,7 @@ fn put_proof<K: Sink>(
     ensures front { OnErr result (WritesProofFront formula.now budget (K.written out.old) (K.written out.new)) }
     ensures decided { 3 ^ formula.now.vars ≤ budget → result ≡ Ok Verdict.Undecided → ⊥ }
     ensures cause { result ≡ Err ReportFault.Write → Rose (K.faults out.old) (K.faults out.new) }
+    ensures quiet { OnOk result (K.faults out.new ≡ K.faults out.old) }
     ensures later { K.faults out.old ≤ K.faults out.new }
 {
     let mut printer = Printer::new(alloc, out);

@@ -1,4 +1,4 @@
-use Rattle.std.proofs.Common.{sym, refl, subst}
+use Rattle.std.proofs.Common.{sym, subst}
 use Rattle.clause_base.specs.Formulas.{IsFormula}
 use Rattle.solve_report.proofs.Sorted.{sorted_is_formula, sorted_all, sorted_more}
 use Rattle.solve_report.proofs.sorting.sorted_form.Goals as goal

@@ -26,7 +26,8 @@ impl Model for Watches {
 }
 
 impl Watches {
-    /// The watches of no clause. They take a list a variable and a list a negation here.
+    /// The watches of no clause. They take a list a variable and a list a negation here; the call fails only where no
+    /// memory is found for these.
     pub fn new(alloc: Global, vars: u32) -> Result<Watches, AllocError>
         ensures { IfOk result (λ watches. watches ≡ nothing_watched vars) }
     {
@@ -60,7 +61,8 @@ impl Watches {
     }
 
     /// Propagates: makes each literal true that a clause leaves alone, until a clause is false, whose number is the
-    /// answer, or all was gone through. Then unit propagation adds nothing.
+    /// answer, or all was gone through. Then unit propagation adds nothing. It fails only where no memory is found; after
+    /// that nothing is promised of the watches, and of the trail only what its type keeps.
     pub fn propagate(&mut self, trail: &mut Trail) -> Result<Option<usize>, AllocError>
         requires { AreKept trail.old self.old }
         ensures grown { OnOk result (HasGrown trail.old trail.new) }

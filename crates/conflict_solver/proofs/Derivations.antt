@@ -82,7 +82,7 @@ ends_empty formula budget left said new s clause hints run is follows empty = re
     plain = All-push (λ (line : List ℤ × List ℕ). IsPlain formula.vars line.0) run.lines ([], hints) run.derived.plain (empty_plain formula.vars);
     few = omega (arith, empty_more run.lines hints, run.derived.few);
   };
-  verdict_holds = record { front = run.lines; hints = hints; whole = refl };
+  verdict_holds = record { front = run.lines; hints = hints; whole = refl; filled = run.filled };
 }
 
 -- what was said is a proof so far

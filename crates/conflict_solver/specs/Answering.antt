@@ -13,11 +13,12 @@ pub record AreSolution (formula : Clauses) (values : List Bool) : Type 0 where
   pub each : length values ≡ formula.vars
   pub solve : Solves (is_true_under values) formula.clauses
 
--- the last line is empty
+-- The last line is empty, and no line before it is.
 pub record EndsEmpty (lines : List (List ℤ × List ℕ)) : Type 0 where
   pub front : List (List ℤ × List ℕ)
   pub hints : List ℕ
   pub whole : lines ≡ front ++ ([], hints) ∷ []
+  pub filled : All (λ line. line.0 ≢ []) front
 
 -- There are exactly `budget` lines, none of them empty and each new, and unit propagation alone refutes the clauses
 -- and the lines not.

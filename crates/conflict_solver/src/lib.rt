@@ -2,9 +2,9 @@
 //! line, or stops once its budget of lines is spent.
 //!
 //! The crate promises that values solve the formula; that each derived line follows by its hints from the clauses and
-//! the lines before it, and teaches unit propagation something new; that a refutation ends with the empty line; and
-//! that a search is undecided only after exactly its budget of lines, where unit propagation alone refutes nothing. The
-//! command `solve` stands on it.
+//! the lines before it, and teaches unit propagation something new if it isn't empty; that a refutation ends with its
+//! one empty line; and that a search is undecided only after exactly its budget of lines, where unit propagation alone
+//! refutes nothing. The command `solve` stands on it.
 #![tactic(auto)]
 
 mod joining;

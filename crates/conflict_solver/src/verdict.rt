@@ -8,9 +8,9 @@ use thiserror::Error;
 pub enum Verdict {
     /// The formula is solved by these values: the variable n has the value at the place n - 1.
     Values(Vec<bool>),
-    /// No values solve the formula: the empty clause was derived.
+    /// No values solve the formula: the empty clause was derived, as the last line and as no other.
     Refuted,
-    /// As many lines as the budget allows were derived, and the search came to no end.
+    /// As many lines as the budget allows were derived, none of them empty, and the search came to no end.
     Undecided,
 }
 

@@ -4,7 +4,8 @@ use Rattle.clause_base.specs.Literals.{is_in}
 use Rattle.clause_base.specs.Teaching.{AllButNegated, IsClosed}
 use Rattle.search_trail.specs.Trails.{Search, IsOnce, lit_at, front}
 
--- the literals below the current level
+-- The literals below the current level, where a level above 0 has begun; on level 0, which has none below it, those of
+-- level 0 itself.
 abbrev pub below : Search → List ℤ
 below s = front s (length s.starts - 1)
 
@@ -13,7 +14,8 @@ pub record IsLearnt (s : Search) (clause : List ℤ) : Type 0 where
   pub once : IsOnce clause
   pub negated : All (λ l. is_in s.lits (neg_ℤ l) ≡ true) clause
 
--- It has a literal, the negation of the first is on the current level, and those of all others are below.
+-- It has a literal, the negation of the first is not in `below`, and those of all others are. So where a level above 0
+-- has begun and the negation of the first is on the trail, that one alone is on the current level.
 pub record IsAsserting (s : Search) (clause : List ℤ) : Type 0 where
   pub some : 0 < length clause
   pub first : is_in (below s) (neg_ℤ (lit_at clause 0)) ≡ false
@@ -27,6 +29,7 @@ pub record IsJump (s : Search) (clause : List ℤ) (level : ℕ) : Type 0 where
   pub least : (other : ℕ) → other < level → AllButNegated (is_in (front s other)) clause (lit_at clause 0) → ⊥
   pub second : 2 ≤ length clause → (other : ℕ) → other < level → is_in (front s other) (neg_ℤ (lit_at clause 1)) ≡ false
 
--- Unit propagation was done below the current level: nothing is to be added there, and no clause is false.
+-- Unit propagation was done for the literals of `below`, which on level 0 are those of that level: nothing is to be added
+-- to them, and no clause is false by them.
 abbrev pub IsDoneBelow : Search → Type 0
 IsDoneBelow s = IsClosed (is_in (below s)) s.clauses

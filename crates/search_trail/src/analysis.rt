@@ -22,7 +22,8 @@ pub struct Learnt {
     pub level: usize,
 }
 
-/// What follows from a clause whose literals are all false. On level 0 it is the empty clause.
+/// What follows from a clause whose literals are all false. On level 0 it is the empty clause. It fails only where no
+/// memory is found.
 pub fn analyse(alloc: Global, trail: &Trail, conflict: usize) -> Result<Learnt, AllocError>
     requires known { IsNumber trail.now.clauses conflict }
     requires failed { All (λ l. is_in trail.now.lits (neg_ℤ l) ≡ true) (numbered trail.now.clauses conflict) }

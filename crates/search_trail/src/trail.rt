@@ -35,7 +35,8 @@ impl Model for Trail {
 }
 
 impl Trail {
-    /// The empty trail, with no clause, of variables from 1 to `vars`. It takes two numbers a variable here.
+    /// The empty trail, with no clause, of variables from 1 to `vars`. It takes two numbers a variable here, and fails
+    /// only where no memory is found for them.
     pub fn new(alloc: Global, vars: u32) -> Result<Trail, AllocError>
         ensures { IfOk result (λ trail. trail ≡ nothing_known vars) }
     {

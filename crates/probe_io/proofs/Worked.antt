@@ -1,6 +1,6 @@
 -- The definitions of devices on small cases.
-use Rattle.std.proofs.Common.{◌≡◌, ℕ, ◌+◌, ◌-◌, ◌^◌, List, [], ◌∷◌, ◌++◌, Option, None, Some, Result, Ok, Err, inl, inr, true, false, get_or, unwrap_or, refl, sym, ◌∙◌, ap, arith}
-use Rattle.probe_io.specs.Causes.{Rose, HasCause}
+use Rattle.std.proofs.Common.{◌≡◌, ℕ, ◌-◌, ◌^◌, List, [], ◌∷◌, ◌++◌, None, Some, Ok, Err, inl, inr, true, false, get_or, unwrap_or, refl, sym, ◌∙◌, ap, arith}
+use Rattle.probe_io.specs.Causes.{Rose, HasCause, counted}
 use Rattle.probe_io.specs.Files.{File, file_of, IsFile, Holds, Lacks, IsFileOver, HoldsOver, left_in, left_at, moved_on}
 use Rattle.probe_io.specs.Plan.{FaultPlan, is_failing, after_call}
 use Rattle.probe_io.specs.Written.{Appends, AppendsFront}
@@ -27,6 +27,22 @@ no_cause cause = not_risen cause.failed
 
 not_quiet : HasCause {T = ℕ} {E = ℕ} 3 4 (Ok 0) → ⊥
 not_quiet cause = omega (arith, cause.quiet)
+
+one_more : counted 3 ≡ 4
+one_more = refl
+
+to_the_last : counted (2 ^ 64 - 2) ≡ 2 ^ 64 - 1
+to_the_last = refl
+
+last_stays : counted (2 ^ 64 - 1) ≡ 2 ^ 64 - 1
+last_stays = refl
+
+-- a count that jumps to its last number may have risen, but not by one fault
+jump_rises : Rose 3 (2 ^ 64 - 1)
+jump_rises = inr refl
+
+jump : 2 ^ 64 - 1 ≡ counted 3 → ⊥
+jump same = omega (arith, same)
 
 -- ---- files: two of the name 1, and an empty one of the name 2
 

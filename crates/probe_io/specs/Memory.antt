@@ -28,9 +28,10 @@ pub record MemSinkView : Type 0 where
   pub plan : FaultPlan
   pub faults : ℕ
 
--- a sink that never fails: all that was written to it, as long as that fitted the room
+-- a sink that never fails: all that was written to it, as long as that fitted the room, and the bytes that it holds
 pub record SureSinkView : Type 0 where
   pub written : Option (List ℕ)
+  pub held : List ℕ
   pub room : ℕ
 
 -- the file at this index

@@ -4,8 +4,9 @@
 //! and written, and that a failure came only where a device failed. The crate promises that
 //! `read_all` gives the whole file or the cause why not, that `put_all`, `put_number` and
 //! `put_pieces` write their whole text or a front of it, and that the devices in memory fail and
-//! give exactly as they were told. `FileShelf` and `StreamSink` reach the real world and tell
-//! nothing of it.
+//! give exactly as they were told, but that a write of `MemSink` fails as well where no memory is
+//! found. `FileShelf` and `StreamSink` reach the real world and tell nothing of it. Each device that
+//! can fail counts a failed call once.
 #![tactic(auto)]
 
 mod folder;

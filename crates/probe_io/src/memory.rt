@@ -1,6 +1,6 @@
 // Devices in memory that fail at chosen calls.
 ghost use Rattle.std.specs.Prelude.{◌≡◌, ◌≢◌, ℕ, ◌<◌, ◌≤◌, ◌⊎◌, ◌++◌, [], List, Some, None, Ok, map, min, length, take, IsTrue, IfOk, OnOk, OnErr};
-ghost use Rattle.probe_io.specs.Causes.{Rose, HasCause};
+ghost use Rattle.probe_io.specs.Causes.{Rose, HasCause, counted};
 ghost use Rattle.std.specs.Io.KnownBytes.{ReadConsumes};
 ghost use Rattle.probe_io.specs.Files.{file_of, left_in, moved_on};
 ghost use Rattle.probe_io.specs.Memory.{told_file};
@@ -66,7 +66,7 @@ impl Shelf for MemShelf {
     ghost read_faults = { λ s. s.read_faults };
 
     /// Starts the file of this name, as `Shelf` says. It fails where there is none, which raises no
-    /// count, and where the plan says so.
+    /// count, and where the plan says so, which counts once.
     fn start(&mut self, name: &str) -> Result<(), Failed>
         ensures started { OnOk result (self.new.at ≡ Some (name.now, 0)) }
         ensures closed { OnErr result (self.new.at ≡ None) }
@@ -76,6 +76,7 @@ impl Shelf for MemShelf {
         ensures failing { IsTrue (is_failing self.old.plan) → OnOk result ⊥ }
         ensures cause { OnErr result ((file_of self.old.files name.now ≡ None)
             ⊎ (IsTrue (is_failing self.old.plan) × Rose self.old.start_faults self.new.start_faults)) }
+        ensures once { file_of self.old.files name.now ≢ None → OnErr result (self.new.start_faults ≡ counted self.old.start_faults) }
 
         ensures counted { self.new.plan ≡ after_call self.old.plan }
         ensures later { self.old.start_faults ≤ self.new.start_faults }
@@ -96,7 +97,7 @@ impl Shelf for MemShelf {
     }
 
     /// Reads on in the started file, as `Shelf` says: as many bytes as the plan's step, `buf` and the
-    /// file allow. It fails where the plan says so and a file is started.
+    /// file allow. It fails where the plan says so and a file is started, which counts once.
     fn read(&mut self, buf: &mut [u8]) -> Result<usize, Failed>
         ensures count { IfOk result (λ n. n ≡ min self.old.plan.step (min (length buf.new) (length (left_in self.old.files self.old.at)))) }
         ensures bytes { ReadConsumes (Some (left_in self.old.files self.old.at)) (Some (left_in self.new.files self.new.at))
@@ -108,6 +109,7 @@ impl Shelf for MemShelf {
         ensures idle { self.old.at ≡ None → result ≡ Ok 0 }
         ensures planned { OnErr result (IsTrue (is_failing self.old.plan)) }
         ensures cause { HasCause self.old.read_faults self.new.read_faults result }
+        ensures once { OnErr result (self.new.read_faults ≡ counted self.old.read_faults) }
 
         ensures counted { self.new.plan ≡ after_call self.old.plan }
         ensures starts_kept { self.new.start_faults ≡ self.old.start_faults }
@@ -171,6 +173,7 @@ impl MemSink {
     // Counts a fault.
     fn fault(&mut self) -> Failed
         ensures counted { Rose self.old.faults self.new.faults }
+        ensures once { self.new.faults ≡ counted self.old.faults }
         ensures later { self.old.faults ≤ self.new.faults }
         ensures plan { self.new.plan ≡ self.old.plan }
         ensures written { self.new.written ≡ self.old.written }
@@ -186,7 +189,8 @@ impl Sink for MemSink {
     ghost faults = { λ s. s.faults };
 
     /// Takes a front of `piece`, as `Sink` says: as many bytes as the plan's step allows. It fails
-    /// where the plan says so and the piece is not empty, and where no memory is found.
+    /// where the plan says so and the piece is not empty, and where no memory is found. Each such call
+    /// counts once.
     fn write(&mut self, piece: &[u8]) -> Result<usize, Failed>
         ensures count { IfOk result (λ n. n ≡ min self.old.plan.step (length piece.now)) }
         ensures some { IfOk result (λ n. 0 < length piece.now → 0 < n) }
@@ -196,6 +200,7 @@ impl Sink for MemSink {
         ensures failing { IsTrue (is_failing self.old.plan) → 0 < length piece.now → OnOk result ⊥ }
         ensures empty { length piece.now ≡ 0 → OnErr result ⊥ }
         ensures cause { HasCause self.old.faults self.new.faults result }
+        ensures once { OnErr result (self.new.faults ≡ counted self.old.faults) }
 
         ensures counted { self.new.plan ≡ after_call self.old.plan }
     {

@@ -27,9 +27,9 @@ const CHUNK: usize = 8192;
 ///
 /// `StartFailed` comes only where starting the file raised `start_faults`, or where the shelf tells
 /// its files and has none of this name; there it always comes, and raises no count. `ReadFailed`
-/// comes only where a read raised `read_faults`. No other answer raises either. Where the shelf tells its files, a file of over
-/// `limit` bytes is never given, and `TooLong` comes for no other. Want of memory may come instead
-/// of any of these once the file is started.
+/// comes only where a read raised `read_faults`. No other answer raises either. Where the shelf tells
+/// its files, a file of over `limit` bytes is never given, and `TooLong` comes for no other. Want of
+/// memory may come instead of any of these once the file is started.
 pub fn read_all<H: Shelf>(
     alloc: Global,
     shelf: &mut H,

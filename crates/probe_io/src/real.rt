@@ -1,7 +1,7 @@
 // The devices of the system. Nothing is known of what the system gives or takes: they tell no content.
-ghost use Rattle.std.specs.Prelude.{◌≡◌, ◌<◌, ◌≤◌, None, length, IfOk, OnErr};
+ghost use Rattle.std.specs.Prelude.{◌≡◌, ◌<◌, ◌≤◌, None, Ok, length, IfSome, IsSomeAnd, IfOk, OnOk, OnErr};
 ghost use Rattle.std.specs.Io.KnownBytes.{ReadConsumes, WriteAppends};
-ghost use Rattle.probe_io.specs.Causes.{HasCause};
+ghost use Rattle.probe_io.specs.Causes.{Rose, HasCause, counted};
 
 use crate::outside::{Failed, Shelf, Sink};
 use std::io::{ErrorKind, Read, Write};
@@ -54,7 +54,14 @@ impl<'a, R: Files> Shelf for FileShelf<'a, R> {
 
     ghost read_faults = { λ s. s.read_faults };
 
-    fn start(&mut self, name: &str) -> Result<(), Failed> {
+    /// Opens the file of this name, as `Shelf` says. That it fails counts once.
+    fn start(&mut self, name: &str) -> Result<(), Failed>
+        ensures cause { OnErr result (Rose self.old.start_faults self.new.start_faults) }
+        ensures once { OnErr result (self.new.start_faults ≡ counted self.old.start_faults) }
+        ensures later { self.old.start_faults ≤ self.new.start_faults }
+        ensures quiet { OnOk result (self.new.start_faults ≡ self.old.start_faults) }
+        ensures reads_kept { self.new.read_faults ≡ self.old.read_faults }
+    {
         self.file = None;
         match fs::open(self.rt, name) {
             Ok(file) => {
@@ -68,7 +75,17 @@ impl<'a, R: Files> Shelf for FileShelf<'a, R> {
         }
     }
 
-    fn read(&mut self, buf: &mut [u8]) -> Result<usize, Failed> {
+    /// Reads on in the opened file, as `Shelf` says: where that tells what is left of it, it gives a
+    /// front of that. That it fails counts once.
+    fn read(&mut self, buf: &mut [u8]) -> Result<usize, Failed>
+        ensures most { IfOk result (λ n. n ≤ length buf.new) }
+        ensures given { IfSome self.old.file (λ before. IsSomeAnd self.new.file (λ now.
+            ReadConsumes (R.File.remaining before) (R.File.remaining now) result buf.new)) }
+        ensures idle { self.old.file ≡ None → result ≡ Ok 0 }
+        ensures cause { HasCause self.old.read_faults self.new.read_faults result }
+        ensures once { OnErr result (self.new.read_faults ≡ counted self.old.read_faults) }
+        ensures starts_kept { self.new.start_faults ≡ self.old.start_faults }
+    {
         let Some(file) = &mut self.file else {
             return Ok(0);
         };
@@ -123,12 +140,14 @@ impl<W: Write + Drop> Sink for StreamSink<W> {
     ghost faults = { λ s. s.faults };
 
     /// Writes to the writer, as `Sink` says: where that tells what it holds, it holds those bytes more.
+    /// That it fails counts once.
     fn write(&mut self, piece: &[u8]) -> Result<usize, Failed>
         ensures held { WriteAppends (W.contents self.old.inner) (W.contents self.new.inner) result piece.now }
         ensures most { IfOk result (λ n. n ≤ length piece.now) }
         ensures some { IfOk result (λ n. 0 < length piece.now → 0 < n) }
         ensures empty { length piece.now ≡ 0 → OnErr result ⊥ }
         ensures cause { HasCause self.old.faults self.new.faults result }
+        ensures once { OnErr result (self.new.faults ≡ counted self.old.faults) }
     {
         if piece.is_empty() {
             return Ok(0);

@@ -82,7 +82,7 @@ impl Shelf for SureShelf {
 }
 
 /// A sink into memory that never fails. It tells what was written as long as that fits the room that
-/// it was made with, and nothing afterwards.
+/// it was made with, and nothing afterwards. It holds the pieces up to the first that does not fit.
 #[derive(Debug, Drop)]
 pub struct SureSink {
     bytes: Vec<u8>,
@@ -96,7 +96,11 @@ impl Model for SureSink {
 
     ghost Value = { SureSinkView };
 
-    ghost view = { λ s. record { written = (if s.is_over then None else Some s.bytes.items); room = s.room } };
+    ghost view = { λ s. record {
+      written = (if s.is_over then None else Some s.bytes.items);
+      held = s.bytes.items;
+      room = s.room;
+    } };
 
     ghost invariant = { λ s. (length s.bytes.items ≤ s.room) × (s.room ≤ vec_capacity s.bytes) };
 }
@@ -104,7 +108,7 @@ impl Model for SureSink {
 impl SureSink {
     /// An empty sink with room for this many bytes. It fails only where no memory is found for them.
     pub fn with_room(alloc: Global, room: usize) -> Result<SureSink, AllocError>
-        ensures { IfOk result (λ sink. sink ≡ record { written = Some []; room = room }) }
+        ensures { IfOk result (λ sink. sink ≡ record { written = Some []; held = []; room = room }) }
     {
         let bytes = Vec::with_capacity(alloc, room)?;
         Ok(SureSink {
@@ -114,9 +118,10 @@ impl SureSink {
         })
     }
 
-    /// The bytes that were written while all fitted.
+    /// The bytes that it holds: all that was written, as long as that is told.
     pub fn bytes(&self) -> &[u8]
-        ensures { IfSome self.now.written (λ told. result.now ≡ told) }
+        ensures held { result.now ≡ self.now.held }
+        ensures told { IfSome self.now.written (λ told. result.now ≡ told) }
     {
         self.bytes.as_slice()
     }
@@ -127,7 +132,8 @@ impl Sink for SureSink {
 
     ghost faults = { λ _. 0 };
 
-    /// Takes all of `piece`. What was written stays told exactly as long as it fits the room.
+    /// Takes all of `piece`. What was written stays told, and is what the sink holds, exactly as long
+    /// as it fits the room. From the first piece on that does not fit, what it holds stays the same.
     fn write(&mut self, piece: &[u8]) -> Result<usize, Failed>
         ensures all { result ≡ Ok (length piece.now) }
         ensures taken { Appends self.old.written self.new.written piece.now }
@@ -136,9 +142,11 @@ impl Sink for SureSink {
         ensures over { IfSome self.old.written (λ before. self.old.room < length before + length piece.now
             → self.new.written ≡ None) }
         ensures stays_over { self.old.written ≡ None → self.new.written ≡ None }
+        ensures held { IfSome self.new.written (λ now. self.new.held ≡ now) }
+        ensures held_stays { self.new.written ≡ None → self.new.held ≡ self.old.held }
         ensures room { self.new.room ≡ self.old.room }
     {
-        if piece.len() <= self.room - self.bytes.len() {
+        if !self.is_over && piece.len() <= self.room - self.bytes.len() {
             self.bytes.extend_from_slice(piece).unwrap();
         } else {
             self.is_over = true;

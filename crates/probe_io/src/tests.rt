@@ -131,6 +131,26 @@ fn numbers_at_their_ends(rt: HostRuntime) -> Result<(), Fail> {
 }
 
 #[test]
+fn a_sure_sink_holds_what_fitted(rt: HostRuntime) -> Result<(), Fail> {
+    let alloc = rt.alloc();
+    let mut sink = SureSink::with_room(alloc, 3)?;
+    assert_eq!(rt; sink.write(b"abcd"), Ok(4));
+    assert_eq!(rt; sink.bytes(), b"".as_slice(), "it doesn't fit");
+    assert_eq!(rt; sink.write(b"xy"), Ok(2));
+    assert_eq!(rt;
+        sink.bytes(),
+        b"".as_slice(),
+        "it comes behind one that doesn't fit"
+    );
+    let mut sink = SureSink::with_room(alloc, 3)?;
+    assert_eq!(rt; sink.write(b"ab"), Ok(2));
+    assert_eq!(rt; sink.write(b"cd"), Ok(2));
+    assert_eq!(rt; sink.write(b"e"), Ok(1));
+    assert_eq!(rt; sink.bytes(), b"ab".as_slice());
+    Ok(())
+}
+
+#[test]
 fn real_files(rt: HostRuntime) -> Result<(), Fail> {
     let alloc = rt.alloc();
     fs::write(&rt, "greeting.txt", "Good morning.\n")?;

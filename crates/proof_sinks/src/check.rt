@@ -89,7 +89,8 @@ impl ProofSink for StepCheck {
 
     ghost faults = { λ s. s.faults };
 
-    /// Gives the clause to the checker. It fails exactly where the clause has too great a variable.
+    /// Gives the clause to the checker. It answers `Failed` exactly where the clause has too great a variable, unless no
+    /// memory is found.
     fn axiom(&mut self, clause: &[Lit]) -> Result<(), StepFault>
         requires live { self.old.live ≡ true }
         requires few { length self.old.said < 2 ^ 61 }
@@ -111,8 +112,8 @@ impl ProofSink for StepCheck {
         taken
     }
 
-    /// Gives the step to the checker. It fails exactly where the clause has too great a variable or doesn't follow by
-    /// the hints from the clauses that were said.
+    /// Gives the step to the checker. It answers `Failed` exactly where the clause has too great a variable or doesn't
+    /// follow by the hints from the clauses that were said, unless no memory is found.
     fn derived(&mut self, clause: &[Lit], hints: &[u64]) -> Result<(), StepFault>
         requires live { self.old.live ≡ true }
         requires few { length self.old.said < 2 ^ 61 }

@@ -20,7 +20,8 @@ pub struct StepFail<P: ProofSink + Drop> {
 }
 
 impl<P: ProofSink + Drop> StepFail<P> {
-    /// A sink whose calls count from 0: the one numbered `at` fails, all others are passed on to `inner`.
+    /// A sink whose calls count from 0: the one numbered `at` fails, all others are passed on to `inner`. That one takes
+    /// lines, counted no faults, and nothing was said to it so far.
     pub fn new(inner: P, at: u64) -> StepFail<P>
         requires live { P.live inner ≡ true }
         requires quiet { P.faults inner ≡ 0 }

@@ -29,7 +29,7 @@ impl<A: ProofSink + Drop, B: ProofSink + Drop> Model for StepPair<A, B> {
 }
 
 impl<A: ProofSink + Drop, B: ProofSink + Drop> StepPair<A, B> {
-    /// A sink that tells `first` each line, and then `second`.
+    /// A sink that tells `first` each line, and then `second`. Both take lines, and nothing was said to them so far.
     pub fn new(first: A, second: B) -> StepPair<A, B>
         requires first_live { A.live first ≡ true }
         requires second_live { B.live second ≡ true }

@@ -2,7 +2,7 @@
 use Rattle.std.proofs.Common.{◌≡◌, ℕ, ◌-◌, ◌^◌, List, [], ◌∷◌, ◌++◌, None, Some, Ok, Err, inl, inr, true, false, get_or, unwrap_or, refl, sym, ◌∙◌, ap, arith}
 use Rattle.probe_io.specs.Causes.{Rose, HasCause, counted}
 use Rattle.probe_io.specs.Files.{File, file_of, IsFile, Holds, Lacks, IsFileOver, HoldsOver, left_in, left_at, moved_on}
-use Rattle.probe_io.specs.Plan.{FaultPlan, is_failing, after_call}
+use Rattle.probe_io.specs.Plan.{FaultPlanView, is_failing, after_call}
 use Rattle.probe_io.specs.Written.{Appends, AppendsFront}
 
 -- ---- counts
@@ -93,7 +93,7 @@ two_further = refl
 
 -- ---- plans: the calls 0 and 2 fail
 
-abbrev plan : ℕ → FaultPlan
+abbrev plan : ℕ → FaultPlanView
 plan next = record { fail_at = 0 ∷ 2 ∷ []; step = 1; next = next }
 
 fails_at_0 : is_failing (plan 0) ≡ true

@@ -3,7 +3,7 @@ use Rattle.std.specs.Prelude.{◌≡◌, ℕ, ◌<◌, ◌≤◌, List, [], leng
 use Rattle.std.specs.Global.{Global}
 use Rattle.std.specs.declared.vec.Vec.{Vec}
 use Rattle.probe_io.specs.Files.{File, Place}
-use Rattle.probe_io.specs.Plan.{FaultPlan}
+use Rattle.probe_io.specs.Plan.{FaultPlanView}
 
 -- a name and a vector as a file
 abbrev pub told_file : List ℕ × Vec ℕ Global → File
@@ -18,14 +18,14 @@ pub record SureShelfView : Type 0 where
 pub record MemShelfView : Type 0 where
   pub files : List File
   pub at : Option Place
-  pub plan : FaultPlan
+  pub plan : FaultPlanView
   pub start_faults : ℕ
   pub read_faults : ℕ
 
 -- a sink that fails by a plan: all that was written to it
 pub record MemSinkView : Type 0 where
   pub written : List ℕ
-  pub plan : FaultPlan
+  pub plan : FaultPlanView
   pub faults : ℕ
 
 -- a sink that never fails: all that was written to it, as long as that fitted the room, and the bytes that it holds

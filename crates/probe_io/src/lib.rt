@@ -14,9 +14,9 @@ mod memory;
 mod names;
 mod outside;
 mod pieces;
+mod plan;
 mod reading;
 mod real;
-mod script;
 mod sure;
 mod writing;
 

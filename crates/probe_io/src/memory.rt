@@ -9,7 +9,7 @@ ghost use Rattle.probe_io.specs.Plan.{is_failing, after_call};
 use crate::folder::Folder;
 use crate::names::Name;
 use crate::outside::{Failed, Shelf, Sink};
-use crate::script::Script;
+use crate::plan::FaultPlan;
 use std::alloc::Global;
 use std::marker::Model;
 
@@ -17,7 +17,7 @@ use std::marker::Model;
 #[derive(Debug, Drop)]
 pub struct MemShelf {
     folder: Folder,
-    script: Script,
+    plan: FaultPlan,
     start_faults: u64,
     read_faults: u64,
 }
@@ -30,7 +30,7 @@ impl Model for MemShelf {
     ghost view = { λ s. record {
       files = s.folder.files;
       at = s.folder.at;
-      plan = s.script;
+      plan = s.plan;
       start_faults = s.start_faults;
       read_faults = s.read_faults;
     } };
@@ -49,7 +49,7 @@ impl MemShelf {
     {
         MemShelf {
             folder: Folder::new(files),
-            script: Script::new(fail_at, step),
+            plan: FaultPlan::new(fail_at, step),
             start_faults: 0,
             read_faults: 0,
         }
@@ -84,7 +84,7 @@ impl Shelf for MemShelf {
         ensures reads_kept { self.new.read_faults ≡ self.old.read_faults }
         ensures same { self.new.files ≡ self.old.files }
     {
-        let is_failing = self.script.is_failing_call();
+        let is_failing = self.plan.is_failing_call();
         if !self.folder.start(name) {
             return Err(Failed);
         }
@@ -115,12 +115,12 @@ impl Shelf for MemShelf {
         ensures starts_kept { self.new.start_faults ≡ self.old.start_faults }
         ensures same { self.new.files ≡ self.old.files }
     {
-        let is_failing = self.script.is_failing_call();
+        let is_failing = self.plan.is_failing_call();
         if is_failing && self.folder.is_started() {
             self.read_faults = self.read_faults.saturating_add(1);
             return Err(Failed);
         }
-        Ok(self.folder.read(buf, self.script.step()))
+        Ok(self.folder.read(buf, self.plan.step()))
     }
 
     /// Leaves the started file. It counts as no call of the plan.
@@ -134,7 +134,7 @@ impl Shelf for MemShelf {
 /// A sink into memory, which tells what was written. Chosen calls fail.
 #[derive(Debug, Drop)]
 pub struct MemSink {
-    script: Script,
+    plan: FaultPlan,
     bytes: Vec<u8>,
     faults: u64,
 }
@@ -144,7 +144,7 @@ impl Model for MemSink {
 
     ghost Value = { MemSinkView };
 
-    ghost view = { λ s. record { written = s.bytes.items; plan = s.script; faults = s.faults } };
+    ghost view = { λ s. record { written = s.bytes.items; plan = s.plan; faults = s.faults } };
 }
 
 impl MemSink {
@@ -157,7 +157,7 @@ impl MemSink {
         ensures no_faults { result.faults ≡ 0 }
     {
         MemSink {
-            script: Script::new(fail_at, step),
+            plan: FaultPlan::new(fail_at, step),
             bytes: Vec::new(alloc),
             faults: 0,
         }
@@ -204,14 +204,14 @@ impl Sink for MemSink {
 
         ensures counted { self.new.plan ≡ after_call self.old.plan }
     {
-        let is_failing = self.script.is_failing_call();
+        let is_failing = self.plan.is_failing_call();
         if piece.is_empty() {
             return Ok(0);
         }
         if is_failing {
             return Err(self.fault());
         }
-        let count = piece.len().min(self.script.step());
+        let count = piece.len().min(self.plan.step());
         match self.bytes.extend_from_slice(&piece[..count]) {
             Ok(()) => Ok(count),
             Err(_) => Err(self.fault()),

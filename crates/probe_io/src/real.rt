@@ -1,5 +1,6 @@
 // The devices of the system. Nothing is known of what the system gives or takes: they tell no content.
 ghost use Rattle.std.specs.Prelude.{◌≡◌, ◌<◌, ◌≤◌, None, Ok, length, IfSome, IsSomeAnd, IfOk, OnOk, OnErr};
+ghost use Rattle.std.specs.Option.{IsSome};
 ghost use Rattle.std.specs.Io.KnownBytes.{ReadConsumes, WriteAppends};
 ghost use Rattle.probe_io.specs.Causes.{Rose, HasCause, counted};
 
@@ -54,8 +55,11 @@ impl<'a, R: Files> Shelf for FileShelf<'a, R> {
 
     ghost read_faults = { λ s. s.read_faults };
 
-    /// Opens the file of this name, as `Shelf` says. That it fails counts once.
+    /// Opens the file of this name, as `Shelf` says: a file is open exactly where that succeeds. That it
+    /// fails counts once.
     fn start(&mut self, name: &str) -> Result<(), Failed>
+        ensures opened { OnOk result (IsSome self.new.file) }
+        ensures closed { OnErr result (self.new.file ≡ None) }
         ensures cause { OnErr result (Rose self.old.start_faults self.new.start_faults) }
         ensures once { OnErr result (self.new.start_faults ≡ counted self.old.start_faults) }
         ensures later { self.old.start_faults ≤ self.new.start_faults }
@@ -96,7 +100,12 @@ impl<'a, R: Files> Shelf for FileShelf<'a, R> {
         outcome
     }
 
-    fn stop(&mut self) {
+    /// Closes the opened file, if there is one.
+    fn stop(&mut self)
+        ensures closed { self.new.file ≡ None }
+        ensures starts_kept { self.new.start_faults ≡ self.old.start_faults }
+        ensures reads_kept { self.new.read_faults ≡ self.old.read_faults }
+    {
         self.file = None;
     }
 }

@@ -1,36 +1,36 @@
 // When a device in memory fails, and how much a call of it moves.
 ghost use Rattle.std.specs.Prelude.{◌≡◌, ◌<◌, IsTrue, ◌↔◌};
-ghost use Rattle.probe_io.specs.Plan.{FaultPlan, is_failing, after_call};
+ghost use Rattle.probe_io.specs.Plan.{FaultPlanView, is_failing, after_call};
 
 use std::marker::Model;
 
 /// The calls that fail, by number from 0, the most bytes that a call moves, and the number of the next
 /// call.
 #[derive(Debug, Drop)]
-pub struct Script {
+pub struct FaultPlan {
     fail_at: Vec<u64>,
     step: usize,
     next: u64,
 }
 
-impl Model for Script {
+impl Model for FaultPlan {
     ghost use Rattle.std.specs.Prelude.{◌<◌};
-    ghost use Rattle.probe_io.specs.Plan.{FaultPlan};
+    ghost use Rattle.probe_io.specs.Plan.{FaultPlanView};
 
-    ghost Value = { FaultPlan };
+    ghost Value = { FaultPlanView };
 
     ghost view = { λ s. record { fail_at = s.fail_at.items; step = s.step; next = s.next } };
 
     ghost invariant = { λ s. 0 < s.step };
 }
 
-impl Script {
-    /// A script whose first call has the number 0.
-    pub fn new(fail_at: Vec<u64>, step: usize) -> Script
+impl FaultPlan {
+    /// A plan whose first call has the number 0.
+    pub fn new(fail_at: Vec<u64>, step: usize) -> FaultPlan
         requires { 0 < step }
         ensures { result ≡ record { fail_at = fail_at.items; step = step; next = 0 } }
     {
-        Script {
+        FaultPlan {
             fail_at,
             step,
             next: 0,

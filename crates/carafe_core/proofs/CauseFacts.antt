@@ -27,7 +27,7 @@ use Rattle.carafe_core.specs.Settings.{BridgesSettings, SolveSettings, IsBridges
 use Rattle.carafe_core.specs.Causes.{IsMap, IsLayout, HasFile, HasNets}
 use Rattle.carafe_core.proofs.NeverTooLong.{never_too_long, map_never_too_long}
 use Rattle.probe_io.proofs.WrittenLemmas.{AppendsFront-whole}
-use Rattle.carafe_core.specs.Answers.{Shown, Text, Count, HasRisen, IsUnwritten, IsAppended, IsFrontAppended, IsFailure, IsOutcome, IsTried, IsAnswer, line_of, IsBridgesFailure, IsSolveFailure, map_refused_as, refused_as, layout_refused_as, sweep_refused_as}
+use Rattle.carafe_core.specs.Answers.{Shown, Text, FaultCount, HasRisen, IsUnwritten, IsAppended, IsFrontAppended, IsFailure, IsOutcome, IsTried, IsAnswer, line_of, IsBridgesFailure, IsSolveFailure, map_refused_as, cif_refused_as, layout_refused_as, sweep_refused_as}
 
 -- a map that is refused
 by_map_fault : (shelf : Shown) (settings : BridgesSettings) (bytes : List ℕ) (fault : MapRefusal) → IsMap shelf.files settings bytes → (fault ≢ NoMapMemory → RefusesMap bytes fault) → IsBridgesFailure shelf (map_refused_as fault) settings
@@ -44,7 +44,7 @@ pub map_failure : (shelf : Shown) (settings : BridgesSettings) (bytes : List ℕ
 map_failure shelf settings bytes fault status is text refuses = subst (λ s. IsBridgesFailure shelf s settings) (sym is) (by_map_fault shelf settings bytes fault text refuses)
 
 -- a layout that is refused
-by_fault : (shelf : Shown) (settings : BridgesSettings) (plan : Plan) (bytes : List ℕ) (fault : CifRefusal) → IsLayout shelf.files settings plan bytes → Refuses bytes fault → IsBridgesFailure shelf (refused_as fault) settings
+by_fault : (shelf : Shown) (settings : BridgesSettings) (plan : Plan) (bytes : List ℕ) (fault : CifRefusal) → IsLayout shelf.files settings plan bytes → Refuses bytes fault → IsBridgesFailure shelf (cif_refused_as fault) settings
 by_fault shelf settings plan bytes CifTooLong layout refuses = absurd (never_too_long bytes refuses)
 by_fault shelf settings plan bytes OutOfMemory layout refuses = tt
 by_fault shelf settings plan bytes (Syntax place) layout refuses = record { plan = plan; bytes = bytes; layout = layout; refuses = refuses }
@@ -58,8 +58,8 @@ by_fault shelf settings plan bytes (OffGrid place) layout refuses = record { pla
 by_fault shelf settings plan bytes (BadLabel place) layout refuses = record { plan = plan; bytes = bytes; layout = layout; refuses = refuses }
 by_fault shelf settings plan bytes (TooManyPoints place) layout refuses = record { plan = plan; bytes = bytes; layout = layout; refuses = refuses }
 
-pub fault_failure : (shelf : Shown) (settings : BridgesSettings) (plan : Plan) (bytes : List ℕ) (fault : CifRefusal) (status : Status) → status ≡ refused_as fault → IsLayout shelf.files settings plan bytes → (fault ≡ OutOfMemory) ⊎ Refuses bytes fault → IsBridgesFailure shelf status settings
-fault_failure shelf settings plan bytes fault status is layout (inl memory) = subst (λ s. IsBridgesFailure shelf s settings) (sym (is ∙ ap refused_as memory)) tt
+pub fault_failure : (shelf : Shown) (settings : BridgesSettings) (plan : Plan) (bytes : List ℕ) (fault : CifRefusal) (status : Status) → status ≡ cif_refused_as fault → IsLayout shelf.files settings plan bytes → (fault ≡ OutOfMemory) ⊎ Refuses bytes fault → IsBridgesFailure shelf status settings
+fault_failure shelf settings plan bytes fault status is layout (inl memory) = subst (λ s. IsBridgesFailure shelf s settings) (sym (is ∙ ap cif_refused_as memory)) tt
 fault_failure shelf settings plan bytes fault status is layout (inr refuses) = subst (λ s. IsBridgesFailure shelf s settings) (sym is) (by_fault shelf settings plan bytes fault layout refuses)
 
 -- a layout whose nets are not named
@@ -128,7 +128,7 @@ solve_failed words shelf settings (WriteFault stream) asked failure = failure
 solve_failed words shelf settings NoMemory asked failure = tt
 
 -- where there is a failure, nothing is written
-pub failed : (words : List (List ℕ)) (shelf : Shown) (out : Text) (faults : Count) (status : Status) → IsFailure words shelf status → IsUnwritten out → IsOutcome words shelf out faults status
+pub failed : (words : List (List ℕ)) (shelf : Shown) (out : Text) (faults : FaultCount) (status : Status) → IsFailure words shelf status → IsUnwritten out → IsOutcome words shelf out faults status
 failed words shelf out faults Done failure unwritten = absurd failure
 failed words shelf out faults DoneUndecided failure unwritten = absurd failure
 failed words shelf out faults (Refused refusal) failure unwritten = record { failure = failure; unwritten = unwritten }
@@ -138,12 +138,12 @@ failed words shelf out faults (WriteFault stream) failure unwritten = absurd fai
 failed words shelf out faults NoMemory failure unwritten = record { front = inl unwritten }
 
 -- a line that was tried is written whole, unless the sink failed
-tried : {T E : Type 0} (diag : Text) (faults : Count) (line : List ℕ) (result : Result T E) → OnOk result (IsAppended diag line) → OnErr result (IsFrontAppended diag line) → OnErr result (HasRisen faults) → IsTried diag faults line
+tried : {T E : Type 0} (diag : Text) (faults : FaultCount) (line : List ℕ) (result : Result T E) → OnOk result (IsAppended diag line) → OnErr result (IsFrontAppended diag line) → OnErr result (HasRisen faults) → IsTried diag faults line
 tried diag faults line (Ok x) ok front rose = record { front = AppendsFront-whole ok; whole = λ quiet. ok }
 tried diag faults line (Err e) ok front rose = record { front = front; whole = λ quiet. absurd (quiet rose) }
 
 -- what is told where there is neither a whole report nor a refusal
-pub told : {T E : Type 0} (words : List (List ℕ)) (shelf : Shown) (out diag : Text) (m n : Count) (status : Status) (result : Result T E) → (status ≡ Done → ⊥) → (status ≡ DoneUndecided → ⊥) → ((refusal : Refusal) → status ≡ Refused refusal → ⊥)
+pub told : {T E : Type 0} (words : List (List ℕ)) (shelf : Shown) (out diag : Text) (m n : FaultCount) (status : Status) (result : Result T E) → (status ≡ Done → ⊥) → (status ≡ DoneUndecided → ⊥) → ((refusal : Refusal) → status ≡ Refused refusal → ⊥)
     → IsOutcome words shelf out m status → OnOk result (IsAppended diag (line_of status)) → OnErr result (IsFrontAppended diag (line_of status)) → OnErr result (HasRisen n) → IsAnswer words shelf out diag m n status
 told words shelf out diag m n Done result not_done not_undecided not_refused outcome ok front rose = absurd (not_done refl)
 told words shelf out diag m n DoneUndecided result not_done not_undecided not_refused outcome ok front rose = absurd (not_undecided refl)

@@ -34,11 +34,11 @@ use Rattle.carafe_core.specs.declared.status.Refusal.TheVariants.{Words, Map as 
 use Rattle.carafe_core.specs.declared.status.Stream.TheVariants.{Out, Diag}
 use Rattle.carafe_core.specs.declared.status.Status.{Status}
 use Rattle.carafe_core.specs.declared.status.Status.TheVariants.{Done, DoneUndecided, Refused, OpenFault, ReadFault, WriteFault, NoMemory}
-use Rattle.carafe_core.specs.Answers.{Count, Text, Shown, HasRisen, IsFailure, IsReported, IsBegun, IsSolved, IsSearchBegun, IsAnswer, IsInterrupted, RefusesWhere, AreThere, IsThere, IsInOrder, IsFaultless, IsComplete, ReportsWhere}
+use Rattle.carafe_core.specs.Answers.{FaultCount, Text, Shown, HasRisen, IsFailure, IsReported, IsBegun, IsSolved, IsSearchBegun, IsAnswer, IsInterrupted, RefusesWhere, AreThere, IsThere, IsInOrder, IsFaultless, IsComplete, ReportsWhere}
 use Rattle.defect_sweep.specs.Bridges.{HasManyBridges}
 use Rattle.carafe_core.specs.Sides.{SpellsSides}
 use Rattle.carafe_core.specs.Settings.{BridgesSettings, SolveSettings, ForBridges, ForSolve, SpellsBudget, IsBridgesCall, IsSolveCall, IsUsage, IsBadSide, IsBadBudget, IsWordCause}
-use Rattle.carafe_core.specs.Causes.{longest, Cause, IsMapCause, IsCifCause, IsLayoutCause, IsSweepCause, IsFormulaCause, IsMap, HasPlan, HasFaultyMap, IsLayout, HasFile, HasLongLayout, HasFaultyLayout, HasFaultyNets, HasNets, HasBridges, IsFormulaText, HasFormula, HasFaultyFormula, IsBridgesReportOf, IsSolveReportOf}
+use Rattle.carafe_core.specs.Causes.{longest, Cause, IsMapCause, IsCifCause, IsLayoutCause, IsSweepCause, IsFormulaCause, IsMap, HasPlan, HasFaultyMap, IsLayout, HasFile, HasLongLayout, HasFaultyLayout, HasFaultyNets, HasNets, LayoutHasManyBridges, IsFormulaText, HasFormula, HasFaultyFormula, IsBridgesReportOf, IsSolveReportOf}
 use Rattle.layout_extract.specs.Same.{AreSameNamed}
 use Rattle.layout_extract.proofs.SameLayouts.{one_reason as one_reason_of_nets, never_both_named, one_naming}
 use Rattle.defect_sweep.proofs.OneCounting.{many}
@@ -227,7 +227,7 @@ one_named list p q named others a b here there =
 -- ---- all causes
 
 -- where the bridges are too many, the nets are named
-bridges_of : (list : List File) (s : BridgesSettings) (r : SweepRefusal) → IsSweepCause r (Some list) s → HasBridges (Some list) s
+bridges_of : (list : List File) (s : BridgesSettings) (r : SweepRefusal) → IsSweepCause r (Some list) s → LayoutHasManyBridges (Some list) s
 bridges_of list s TooManyBridges c = c
 bridges_of list s NoSweepMemory c = absurd c
 
@@ -394,18 +394,18 @@ failure_cause words shelf (OfSweep refusal) failure = record { settings = failur
 failure_cause words shelf (OfFormula fault) failure = record { settings = failure.settings; asked = failure.asked; holds = failure.holds }
 
 -- no cause stands where a whole report was written
-whole_not_refused : (words : List (List ℕ)) (list : List File) (starts reads : Count) (out : Text) (r : Refusal)
+whole_not_refused : (words : List (List ℕ)) (list : List File) (starts reads : FaultCount) (out : Text) (r : Refusal)
     → IsReported words (record { files = Some list; starts = starts; reads = reads }) out ⊎ ForSolve words (λ settings. IsSolved (Some list) settings out) → Cause r words (Some list) → ⊥
 whole_not_refused words list starts reads out r (inl whole) cause = no_cause words list whole.report_text r whole.report cause
 whole_not_refused words list starts reads out r (inr solved) cause = not_refused_solved list r solved.asked solved.holds.has cause
 
 -- nor where a front of one was
-front_not_refused : (words : List (List ℕ)) (list : List File) (starts reads : Count) (out : Text) (r : Refusal)
+front_not_refused : (words : List (List ℕ)) (list : List File) (starts reads : FaultCount) (out : Text) (r : Refusal)
     → IsBegun words (record { files = Some list; starts = starts; reads = reads }) out ⊎ ForSolve words (λ settings. IsSearchBegun (Some list) settings out) → Cause r words (Some list) → ⊥
 front_not_refused words list starts reads out r (inl begun) cause = no_cause words list begun.report_text r begun.report cause
 front_not_refused words list starts reads out r (inr begun) cause = not_refused_solved list r begun.asked begun.holds.has cause
 
-told_refusal : (words : List (List ℕ)) (list : List File) (starts reads : Count) (out diag : Text) (m n : Count) (status : Status) (r : Refusal)
+told_refusal : (words : List (List ℕ)) (list : List File) (starts reads : FaultCount) (out diag : Text) (m n : FaultCount) (status : Status) (r : Refusal)
     → IsAnswer words (record { files = Some list; starts = starts; reads = reads }) out diag m n status → Cause r words (Some list) → (status ≡ Refused r) ⊎ IsInterrupted status
 told_refusal words list starts reads out diag m n Done r answer cause = absurd (whole_not_refused words list starts reads out r answer.outcome cause)
 told_refusal words list starts reads out diag m n DoneUndecided r answer cause = absurd (not_refused_solved list r answer.outcome.asked answer.outcome.holds.has cause)
@@ -417,7 +417,7 @@ told_refusal words list starts reads out diag m n (WriteFault Diag) r answer cau
 told_refusal words list starts reads out diag m n NoMemory r answer cause = inr tt
 
 -- a refusal comes where its cause stands
-pub refuses_where : (words : List (List ℕ)) (told : Option (List File)) (starts reads : Count) (out diag : Text) (m n : Count) (status : Status)
+pub refuses_where : (words : List (List ℕ)) (told : Option (List File)) (starts reads : FaultCount) (out diag : Text) (m n : FaultCount) (status : Status)
     → IsAnswer words (record { files = told; starts = starts; reads = reads }) out diag m n status → RefusesWhere words told status
 refuses_where words told starts reads out diag m n status answer r list is cause =
     told_refusal words list starts reads out diag m n status r (subst (λ files. IsAnswer words (record { files = files; starts = starts; reads = reads }) out diag m n status) is answer) cause
@@ -437,11 +437,11 @@ formula_there list asked (inl there) = absurd (not_both_calls there.asked asked)
 formula_there list asked (inr there) = record { formula = λ lacks. there.holds.formula (subst (λ name. Lacks (Some list) name) (same_formula asked there.asked) lacks) }
 
 -- a file that is there is opened, unless the shelf fails
-opened : (list : List File) (name : List ℕ) (starts : Count) → (Lacks (Some list) name → ⊥) → (HasRisen starts → ⊥) → Lacks (Some list) name ⊎ HasRisen starts → ⊥
+opened : (list : List File) (name : List ℕ) (starts : FaultCount) → (Lacks (Some list) name → ⊥) → (HasRisen starts → ⊥) → Lacks (Some list) name ⊎ HasRisen starts → ⊥
 opened list name starts there quiet (inl lacks) = there lacks
 opened list name starts there quiet (inr rose) = quiet rose
 
-told_report : (words : List (List ℕ)) (list : List File) (starts reads : Count) (out diag : Text) (m n : Count) (status : Status)
+told_report : (words : List (List ℕ)) (list : List File) (starts reads : FaultCount) (out diag : Text) (m n : FaultCount) (status : Status)
     → IsAnswer words (record { files = Some list; starts = starts; reads = reads }) out diag m n status → IsInOrder words list → IsFaultless (record { files = Some list; starts = starts; reads = reads }) m n → IsComplete words (Some list) status
 told_report words list starts reads out diag m n Done answer order fair = tt
 told_report words list starts reads out diag m n DoneUndecided answer order fair =
@@ -462,7 +462,7 @@ told_report words list starts reads out diag m n (WriteFault Diag) answer order 
 told_report words list starts reads out diag m n NoMemory answer order fair = tt
 
 -- a report is written where input and devices are in order
-pub reports_where : (words : List (List ℕ)) (told : Option (List File)) (starts reads : Count) (out diag : Text) (m n : Count) (status : Status)
+pub reports_where : (words : List (List ℕ)) (told : Option (List File)) (starts reads : FaultCount) (out diag : Text) (m n : FaultCount) (status : Status)
     → IsAnswer words (record { files = told; starts = starts; reads = reads }) out diag m n status → ReportsWhere words (record { files = told; starts = starts; reads = reads }) m n status
 reports_where words told starts reads out diag m n status answer list is order fair =
     told_report words list starts reads out diag m n status (subst (λ files. IsAnswer words (record { files = files; starts = starts; reads = reads }) out diag m n status) is answer) order

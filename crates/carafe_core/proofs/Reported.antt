@@ -6,7 +6,7 @@ use Rattle.carafe_core.specs.Settings.{BridgesSettings, IsBridgesCall}
 use Rattle.carafe_core.specs.Subject.{IsSubject}
 use Rattle.carafe_core.specs.Report.{report_text, wire_names, tallies_of}
 use Rattle.carafe_core.specs.Causes.{IsBridgesReportOf}
-use Rattle.carafe_core.specs.Answers.{Shown, Text, Count, HasRisen, IsAppended, IsFrontAppended, IsReported, IsCutOff}
+use Rattle.carafe_core.specs.Answers.{Shown, Text, FaultCount, HasRisen, IsAppended, IsFrontAppended, IsReported, IsCutOff}
 
 -- the report on a subject, for these sides
 abbrev pub text_on : List SideWeight → Subject → List ℕ
@@ -27,7 +27,7 @@ reported words shelf out settings subject sides asked is same written = record {
   written = subst (λ s. IsAppended out (text_on s subject)) same written;
 }
 
-pub cut_off : (words : List (List ℕ)) (shelf : Shown) (out : Text) (faults : Count) (settings : BridgesSettings) (subject : Subject) (sides : List SideWeight) → IsBridgesCall words settings → IsSubject shelf.files settings subject → sides ≡ settings.sides
+pub cut_off : (words : List (List ℕ)) (shelf : Shown) (out : Text) (faults : FaultCount) (settings : BridgesSettings) (subject : Subject) (sides : List SideWeight) → IsBridgesCall words settings → IsSubject shelf.files settings subject → sides ≡ settings.sides
     → IsFrontAppended out (text_on sides subject) → HasRisen faults → IsCutOff words shelf out faults
 cut_off words shelf out faults settings subject sides asked is same written failed = record {
   front = inl (record {

@@ -145,19 +145,19 @@ line_of (WriteFault Diag) = []
 line_of NoMemory = codes "carafe: NoMemory\n"
 
 -- the status of a layout that the reader refuses
-abbrev pub refused_as : CifRefusal → Status
-refused_as CifTooLong = Refused (OfCif CifTooLong)
-refused_as OutOfMemory = NoMemory
-refused_as (Syntax place) = Refused (OfCif (Syntax place))
-refused_as (NumberTooLarge place) = Refused (OfCif (NumberTooLarge place))
-refused_as (Unsupported place feature) = Refused (OfCif (Unsupported place feature))
-refused_as (NotManhattan place) = Refused (OfCif (NotManhattan place))
-refused_as (NoLayer place) = Refused (OfCif (NoLayer place))
-refused_as (TwiceDefined place) = Refused (OfCif (TwiceDefined place))
-refused_as (ZeroScale place) = Refused (OfCif (ZeroScale place))
-refused_as (OffGrid place) = Refused (OfCif (OffGrid place))
-refused_as (BadLabel place) = Refused (OfCif (BadLabel place))
-refused_as (TooManyPoints place) = Refused (OfCif (TooManyPoints place))
+abbrev pub cif_refused_as : CifRefusal → Status
+cif_refused_as CifTooLong = Refused (OfCif CifTooLong)
+cif_refused_as OutOfMemory = NoMemory
+cif_refused_as (Syntax place) = Refused (OfCif (Syntax place))
+cif_refused_as (NumberTooLarge place) = Refused (OfCif (NumberTooLarge place))
+cif_refused_as (Unsupported place feature) = Refused (OfCif (Unsupported place feature))
+cif_refused_as (NotManhattan place) = Refused (OfCif (NotManhattan place))
+cif_refused_as (NoLayer place) = Refused (OfCif (NoLayer place))
+cif_refused_as (TwiceDefined place) = Refused (OfCif (TwiceDefined place))
+cif_refused_as (ZeroScale place) = Refused (OfCif (ZeroScale place))
+cif_refused_as (OffGrid place) = Refused (OfCif (OffGrid place))
+cif_refused_as (BadLabel place) = Refused (OfCif (BadLabel place))
+cif_refused_as (TooManyPoints place) = Refused (OfCif (TooManyPoints place))
 
 -- the status of a map that the reader refuses
 abbrev pub map_refused_as : MapRefusal → Status
@@ -190,7 +190,7 @@ formula_refused_as (FormulaSyntax place) = Refused (OfFormula (FormulaSyntax pla
 formula_refused_as (TooLarge place) = Refused (OfFormula (TooLarge place))
 
 -- a count of faults, before the call and after it
-pub record Count : Type 0 where
+pub record FaultCount : Type 0 where
   pub before : ℕ
   pub after : ℕ
 
@@ -199,18 +199,18 @@ pub record Text : Type 0 where
   pub before : Option (List ℕ)
   pub after : Option (List ℕ)
 
-abbrev pub count : ℕ → ℕ → Count
-count before after = record { before = before; after = after }
+abbrev pub fault_count : ℕ → ℕ → FaultCount
+fault_count before after = record { before = before; after = after }
 
 abbrev pub text : Option (List ℕ) → Option (List ℕ) → Text
 text before after = record { before = before; after = after }
 
 -- the count rose in the call
-abbrev pub HasRisen : Count → Type 0
+abbrev pub HasRisen : FaultCount → Type 0
 HasRisen count = Rose count.before count.after
 
 -- no call on the device failed: the count is what it was
-pub record IsQuiet (count : Count) : Type 0 where
+pub record IsQuiet (count : FaultCount) : Type 0 where
   pub same : count.after ≡ count.before
 
 -- nothing was written in the call
@@ -226,14 +226,14 @@ IsFrontAppended text bytes = AppendsFront text.before text.after bytes
 -- what a shelf showed: the files that it tells, and its counts of faults
 pub record Shown : Type 0 where
   pub files : Option (List File)
-  pub starts : Count
-  pub reads : Count
+  pub starts : FaultCount
+  pub reads : FaultCount
 
 abbrev pub shown : Option (List File) → ℕ → ℕ → ℕ → ℕ → Shown
 shown files starts starts' reads reads' = record {
   files = files;
-  starts = count starts starts';
-  reads = count reads reads';
+  starts = fault_count starts starts';
+  reads = fault_count reads reads';
 }
 
 -- no file failed to be started, and no read failed
@@ -349,7 +349,7 @@ pub record IsSearchBegun (files : Option (List File)) (settings : SolveSettings)
   pub written : WritesFront formula settings.budget out.before out.after
 
 -- the report sink failed in this call, and a front of what the words ask for was written
-pub record IsCutOff (words : List (List ℕ)) (shelf : Shown) (out : Text) (faults : Count) : Type 0 where
+pub record IsCutOff (words : List (List ℕ)) (shelf : Shown) (out : Text) (faults : FaultCount) : Type 0 where
   pub front : IsBegun words shelf out ⊎ ForSolve words (λ settings. IsSearchBegun shelf.files settings out)
   pub failed : HasRisen faults
 
@@ -363,7 +363,7 @@ pub record IsOutOfMemory (words : List (List ℕ)) (shelf : Shown) (out : Text) 
   pub front : IsUnwritten out ⊎ ForSolve words (λ settings. IsSearchBegun shelf.files settings out)
 
 -- what each status says of the files and of the report sink
-abbrev pub IsOutcome : List (List ℕ) → Shown → Text → Count → Status → Type 0
+abbrev pub IsOutcome : List (List ℕ) → Shown → Text → FaultCount → Status → Type 0
 IsOutcome words shelf out faults Done = IsReported words shelf out ⊎ ForSolve words (λ settings. IsSolved shelf.files settings out)
 IsOutcome words shelf out faults DoneUndecided = ForSolve words (λ settings. IsUndecided shelf.files settings out)
 IsOutcome words shelf out faults (WriteFault Out) = IsCutOff words shelf out faults
@@ -374,12 +374,12 @@ IsOutcome words shelf out faults (ReadFault which) = IsRefrained words shelf out
 IsOutcome words shelf out faults NoMemory = IsOutOfMemory words shelf out
 
 -- a front of the line was written to the diagnostics sink, and the whole line where that sink did not fail
-pub record IsTried (diag : Text) (faults : Count) (line : List ℕ) : Type 0 where
+pub record IsTried (diag : Text) (faults : FaultCount) (line : List ℕ) : Type 0 where
   pub front : IsFrontAppended diag line
   pub whole : (HasRisen faults → ⊥) → IsAppended diag line
 
 -- what each status says of the diagnostics sink
-abbrev pub IsTold : Text → Count → Status → Type 0
+abbrev pub IsTold : Text → FaultCount → Status → Type 0
 IsTold diag faults Done = IsUnwritten diag
 IsTold diag faults DoneUndecided = IsUnwritten diag
 IsTold diag faults (Refused refusal) = IsAppended diag (line_of (Refused refusal))
@@ -389,18 +389,18 @@ IsTold diag faults (WriteFault stream) = IsTried diag faults (line_of (WriteFaul
 IsTold diag faults NoMemory = IsTried diag faults (line_of NoMemory)
 
 -- the line of a refusal could not be written whole: the diagnostics sink failed in this call
-pub record IsUntold (words : List (List ℕ)) (shelf : Shown) (out diag : Text) (out_faults diag_faults : Count) : Type 0 where
+pub record IsUntold (words : List (List ℕ)) (shelf : Shown) (out diag : Text) (out_faults diag_faults : FaultCount) : Type 0 where
   pub refusal : Refusal
   pub outcome : IsOutcome words shelf out out_faults (Refused refusal)
   pub written : IsFrontAppended diag (line_of (Refused refusal))
   pub failed : HasRisen diag_faults
 
 -- what a status says of the call
-pub record IsToldOutcome (words : List (List ℕ)) (shelf : Shown) (out diag : Text) (out_faults diag_faults : Count) (status : Status) : Type 0 where
+pub record IsToldOutcome (words : List (List ℕ)) (shelf : Shown) (out diag : Text) (out_faults diag_faults : FaultCount) (status : Status) : Type 0 where
   pub outcome : IsOutcome words shelf out out_faults status
   pub told : IsTold diag diag_faults status
 
-abbrev pub IsAnswer : List (List ℕ) → Shown → Text → Text → Count → Count → Status → Type 0
+abbrev pub IsAnswer : List (List ℕ) → Shown → Text → Text → FaultCount → FaultCount → Status → Type 0
 IsAnswer words shelf out diag out_faults diag_faults (WriteFault Diag) = IsUntold words shelf out diag out_faults diag_faults
 IsAnswer words shelf out diag out_faults diag_faults Done = IsToldOutcome words shelf out diag out_faults diag_faults Done
 IsAnswer words shelf out diag out_faults diag_faults DoneUndecided = IsToldOutcome words shelf out diag out_faults diag_faults DoneUndecided
@@ -437,12 +437,12 @@ pub record TellsShelfFaults (shelf : Shown) (status : Status) : Type 0 where
   pub reads : is_read_fault status ≡ false → IsQuiet shelf.reads
 
 -- a write of the report that failed is told by the status
-abbrev pub TellsCutOff : Count → Status → Type 0
+abbrev pub TellsCutOff : FaultCount → Status → Type 0
 TellsCutOff out_faults status = is_cut_off status ≡ false → IsQuiet out_faults
 
 -- No call on a device fails unknown: the status tells of a failed start, of a failed read, and of a failed write of the
 -- report, and where no line was owed, or it was told, no write of one failed.
-pub record TellsFaults (shelf : Shown) (out_faults diag_faults : Count) (status : Status) : Type 0 where
+pub record TellsFaults (shelf : Shown) (out_faults diag_faults : FaultCount) (status : Status) : Type 0 where
   pub shelf_faults : TellsShelfFaults shelf status
   pub cut_off : TellsCutOff out_faults status
   pub line : may_be_untold status ≡ false → IsQuiet diag_faults
@@ -479,7 +479,7 @@ pub record IsInOrder (words : List (List ℕ)) (files : List File) : Type 0 wher
   pub no_cause : (refusal : Refusal) → Cause refusal words (Some files) → ⊥
 
 -- no count of faults rose in the call
-pub record IsFaultless (shelf : Shown) (out_faults diag_faults : Count) : Type 0 where
+pub record IsFaultless (shelf : Shown) (out_faults diag_faults : FaultCount) : Type 0 where
   pub starts : HasRisen shelf.starts → ⊥
   pub reads : HasRisen shelf.reads → ⊥
   pub out : HasRisen out_faults → ⊥
@@ -497,6 +497,6 @@ IsComplete words files (WriteFault stream) = ⊥
 IsComplete words files NoMemory = Unit {0}
 
 -- where input and devices are in order, the report is written, unless no memory was found
-abbrev pub ReportsWhere : List (List ℕ) → Shown → Count → Count → Status → Type 0
+abbrev pub ReportsWhere : List (List ℕ) → Shown → FaultCount → FaultCount → Status → Type 0
 ReportsWhere words shelf out_faults diag_faults status = (files : List File) → shelf.files ≡ Some files
     → IsInOrder words files → IsFaultless shelf out_faults diag_faults → IsComplete words (Some files) status

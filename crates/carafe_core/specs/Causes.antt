@@ -140,7 +140,7 @@ pub record HasNets (files : Option (List File)) (settings : BridgesSettings) (pl
 -- ---- the bridges
 
 -- too many pairs of the layout's nets are met
-pub record HasBridges (files : Option (List File)) (settings : BridgesSettings) : Type 0 where
+pub record LayoutHasManyBridges (files : Option (List File)) (settings : BridgesSettings) : Type 0 where
   pub plan : Plan
   pub named : NamedNets
   pub nets : HasNets files settings plan named
@@ -148,7 +148,7 @@ pub record HasBridges (files : Option (List File)) (settings : BridgesSettings) 
 
 -- what each refusal of the counts says of them
 abbrev pub IsSweepCause : SweepRefusal → Option (List File) → BridgesSettings → Type 0
-IsSweepCause TooManyBridges files settings = HasBridges files settings
+IsSweepCause TooManyBridges files settings = LayoutHasManyBridges files settings
 IsSweepCause NoSweepMemory files settings = ⊥
 
 -- the text is the report on the files that the settings name

@@ -1,7 +1,7 @@
 //! The top call.
 
 ghost use Rattle.std.specs.Prelude.{◌≡◌, ℕ, ◌≤◌};
-ghost use Rattle.carafe_core.specs.Answers.{count, text, shown, IsOutcome, IsAnswer, RefusesWhere, ReportsWhere, TellsShelfFaults, TellsCutOff, TellsFaults};
+ghost use Rattle.carafe_core.specs.Answers.{fault_count, text, shown, IsOutcome, IsAnswer, RefusesWhere, ReportsWhere, TellsShelfFaults, TellsCutOff, TellsFaults};
 
 use crate::bridges::report_bridges;
 use crate::settings::{Command, read_words};
@@ -14,10 +14,10 @@ use std::alloc::Global;
 fn report<H: Shelf, K: Sink>(alloc: Global, words: &[Name], shelf: &mut H, out: &mut K) -> Status
     ensures outcome { IsOutcome words.now (shown (H.files shelf.old) (H.start_faults shelf.old) (H.start_faults shelf.new)
         (H.read_faults shelf.old) (H.read_faults shelf.new)) (text (K.written out.old) (K.written out.new))
-        (count (K.faults out.old) (K.faults out.new)) result }
+        (fault_count (K.faults out.old) (K.faults out.new)) result }
     ensures told { TellsShelfFaults (shown (H.files shelf.old) (H.start_faults shelf.old) (H.start_faults shelf.new)
         (H.read_faults shelf.old) (H.read_faults shelf.new)) result }
-    ensures cut_off { TellsCutOff (count (K.faults out.old) (K.faults out.new)) result }
+    ensures cut_off { TellsCutOff (fault_count (K.faults out.old) (K.faults out.new)) result }
 {
     match read_words(alloc, words) {
         Ok(Command::Bridges(settings)) => report_bridges(alloc, &settings, shelf, out),
@@ -36,15 +36,15 @@ pub fn carafe<H: Shelf, K: Sink, E: Sink>(
 ) -> Status
     ensures answer { IsAnswer words.now (shown (H.files shelf.old) (H.start_faults shelf.old) (H.start_faults shelf.new)
         (H.read_faults shelf.old) (H.read_faults shelf.new)) (text (K.written out.old) (K.written out.new))
-        (text (E.written diag.old) (E.written diag.new)) (count (K.faults out.old) (K.faults out.new))
-        (count (E.faults diag.old) (E.faults diag.new)) result }
+        (text (E.written diag.old) (E.written diag.new)) (fault_count (K.faults out.old) (K.faults out.new))
+        (fault_count (E.faults diag.old) (E.faults diag.new)) result }
     ensures refused { RefusesWhere words.now (H.files shelf.old) result }
     ensures complete { ReportsWhere words.now (shown (H.files shelf.old) (H.start_faults shelf.old) (H.start_faults shelf.new)
-        (H.read_faults shelf.old) (H.read_faults shelf.new)) (count (K.faults out.old) (K.faults out.new))
-        (count (E.faults diag.old) (E.faults diag.new)) result }
+        (H.read_faults shelf.old) (H.read_faults shelf.new)) (fault_count (K.faults out.old) (K.faults out.new))
+        (fault_count (E.faults diag.old) (E.faults diag.new)) result }
     ensures faults { TellsFaults (shown (H.files shelf.old) (H.start_faults shelf.old) (H.start_faults shelf.new)
-        (H.read_faults shelf.old) (H.read_faults shelf.new)) (count (K.faults out.old) (K.faults out.new))
-        (count (E.faults diag.old) (E.faults diag.new)) result }
+        (H.read_faults shelf.old) (H.read_faults shelf.new)) (fault_count (K.faults out.old) (K.faults out.new))
+        (fault_count (E.faults diag.old) (E.faults diag.new)) result }
 {
     answered(alloc, words, shelf, out, diag)
 }
@@ -59,11 +59,11 @@ fn answered<H: Shelf, K: Sink, E: Sink>(
 ) -> Status
     ensures answer { IsAnswer words.now (shown (H.files shelf.old) (H.start_faults shelf.old) (H.start_faults shelf.new)
         (H.read_faults shelf.old) (H.read_faults shelf.new)) (text (K.written out.old) (K.written out.new))
-        (text (E.written diag.old) (E.written diag.new)) (count (K.faults out.old) (K.faults out.new))
-        (count (E.faults diag.old) (E.faults diag.new)) result }
+        (text (E.written diag.old) (E.written diag.new)) (fault_count (K.faults out.old) (K.faults out.new))
+        (fault_count (E.faults diag.old) (E.faults diag.new)) result }
     ensures faults { TellsFaults (shown (H.files shelf.old) (H.start_faults shelf.old) (H.start_faults shelf.new)
-        (H.read_faults shelf.old) (H.read_faults shelf.new)) (count (K.faults out.old) (K.faults out.new))
-        (count (E.faults diag.old) (E.faults diag.new)) result }
+        (H.read_faults shelf.old) (H.read_faults shelf.new)) (fault_count (K.faults out.old) (K.faults out.new))
+        (fault_count (E.faults diag.old) (E.faults diag.new)) result }
 {
     let status = report(alloc, words, shelf, out);
     match status {

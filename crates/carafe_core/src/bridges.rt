@@ -3,7 +3,7 @@
 ghost use Rattle.std.specs.Prelude.{ℕ, List};
 ghost use Rattle.defect_sweep.specs.Sides.{AreSides};
 ghost use Rattle.carafe_core.specs.Settings.{bridges_settings, IsBridgesCall};
-ghost use Rattle.carafe_core.specs.Answers.{count, text, shown, IsOutcome, TellsShelfFaults, TellsCutOff};
+ghost use Rattle.carafe_core.specs.Answers.{fault_count, text, shown, IsOutcome, TellsShelfFaults, TellsCutOff};
 
 use crate::report::put_report;
 use crate::settings::BridgesSettings;
@@ -23,10 +23,10 @@ pub(crate) fn report_bridges<H: Shelf, K: Sink>(
     ensures outcome { (words : List (List ℕ)) → IsBridgesCall words (bridges_settings settings.now)
         → IsOutcome words (shown (H.files shelf.old) (H.start_faults shelf.old) (H.start_faults shelf.new)
         (H.read_faults shelf.old) (H.read_faults shelf.new)) (text (K.written out.old) (K.written out.new))
-        (count (K.faults out.old) (K.faults out.new)) result }
+        (fault_count (K.faults out.old) (K.faults out.new)) result }
     ensures told { TellsShelfFaults (shown (H.files shelf.old) (H.start_faults shelf.old) (H.start_faults shelf.new)
         (H.read_faults shelf.old) (H.read_faults shelf.new)) result }
-    ensures cut_off { TellsCutOff (count (K.faults out.old) (K.faults out.new)) result }
+    ensures cut_off { TellsCutOff (fault_count (K.faults out.old) (K.faults out.new)) result }
 {
     let subject = match read_subject(alloc, settings, shelf) {
         Ok(subject) => subject,

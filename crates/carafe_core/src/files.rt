@@ -4,7 +4,7 @@ ghost use Rattle.std.specs.Prelude.{◌≡◌, ℕ, ◌^◌, ◌<◌, ◌≤◌,
 ghost use Rattle.probe_io.specs.Files.{IsFile};
 ghost use Rattle.carafe_core.specs.Settings.{bridges_settings};
 ghost use Rattle.carafe_core.specs.Causes.{longest, too_long, HasPlan, HasFile};
-ghost use Rattle.carafe_core.specs.Answers.{shown, map_refused_as, refused_as, IsUnread, IsBridgesFailure, IsShelfQuiet, TellsShelfFaults};
+ghost use Rattle.carafe_core.specs.Answers.{shown, map_refused_as, cif_refused_as, IsUnread, IsBridgesFailure, IsShelfQuiet, TellsShelfFaults};
 
 use crate::settings::BridgesSettings;
 use crate::status::{Refusal, Status, Which};
@@ -118,13 +118,13 @@ pub(crate) fn read_cif<H: Shelf>(
     let bytes = read_file(alloc, shelf, settings.cif, Which::Cif)?;
     match cif_reader::read(alloc, bytes.as_slice()) {
         Ok(file) => Ok(file),
-        Err(refusal) => Err(refused(refusal)),
+        Err(refusal) => Err(cif_refused(refusal)),
     }
 }
 
 /// The status of a layout that the reader refuses.
-fn refused(refusal: CifRefusal) -> Status
-    ensures { result ≡ refused_as refusal }
+fn cif_refused(refusal: CifRefusal) -> Status
+    ensures { result ≡ cif_refused_as refusal }
 {
     match refusal {
         CifRefusal::NoMemory => Status::NoMemory,

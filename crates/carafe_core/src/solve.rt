@@ -3,7 +3,7 @@
 ghost use Rattle.std.specs.Prelude.{◌≡◌, ℕ, ◌<◌, List, OnOk, IfOk, IfErr};
 ghost use Rattle.carafe_core.specs.Settings.{solve_settings, IsSolveCall};
 ghost use Rattle.carafe_core.specs.Causes.{HasFormula};
-ghost use Rattle.carafe_core.specs.Answers.{count, text, shown, formula_refused_as, IsSolveFailure, IsOutcome, IsShelfQuiet, TellsShelfFaults, TellsCutOff};
+ghost use Rattle.carafe_core.specs.Answers.{fault_count, text, shown, formula_refused_as, IsSolveFailure, IsOutcome, IsShelfQuiet, TellsShelfFaults, TellsCutOff};
 
 use crate::files::read_file;
 use crate::settings::SolveSettings;
@@ -55,10 +55,10 @@ pub(crate) fn report_search<H: Shelf, K: Sink>(
     ensures outcome { (words : List (List ℕ)) → IsSolveCall words (solve_settings settings.now)
         → IsOutcome words (shown (H.files shelf.old) (H.start_faults shelf.old) (H.start_faults shelf.new)
         (H.read_faults shelf.old) (H.read_faults shelf.new)) (text (K.written out.old) (K.written out.new))
-        (count (K.faults out.old) (K.faults out.new)) result }
+        (fault_count (K.faults out.old) (K.faults out.new)) result }
     ensures told { TellsShelfFaults (shown (H.files shelf.old) (H.start_faults shelf.old) (H.start_faults shelf.new)
         (H.read_faults shelf.old) (H.read_faults shelf.new)) result }
-    ensures cut_off { TellsCutOff (count (K.faults out.old) (K.faults out.new)) result }
+    ensures cut_off { TellsCutOff (fault_count (K.faults out.old) (K.faults out.new)) result }
 {
     let formula = match read_formula(alloc, shelf, settings) {
         Ok(formula) => formula,

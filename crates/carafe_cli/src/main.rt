@@ -3,7 +3,8 @@
 //! takes is trusted.
 #![tactic(auto)]
 
-ghost use Rattle.std.specs.Prelude.{◌≡◌, [], map, drop, string_bytes, IfOk, IfErr, OnOk, OnErr};
+ghost use Rattle.std.specs.Prelude.{◌≡◌, [], map, drop, string_bytes, IfOk, IfErr, OnOk};
+ghost use Rattle.std.specs.Result.{IsOkAnd};
 ghost use Rattle.std.specs.IoError.{error_kind};
 ghost use Rattle.std.specs.Vec.Iter.{into_iter_items};
 
@@ -31,10 +32,10 @@ fn main(rt: HostRuntime) -> ExitCode {
     ExitCode::from(status.exit_number())
 }
 
-/// The words behind the program's name; none where an argument is no text.
+/// The words behind the program's name; none where an argument is no text. It fails only where no memory is found.
 fn read_arguments(alloc: Global, arguments: io::Result<Args>) -> Result<Vec<Name>, AllocError>
     ensures words { IfOk arguments (λ args. IfOk result (λ words. words.items ≡ drop 1 (map string_bytes (into_iter_items args)))) }
-    ensures none { OnErr arguments (IfOk result (λ words. words.items ≡ [])) }
+    ensures none { IfErr arguments (λ error. (error_kind error ≡ ErrorKind.OutOfMemory → ⊥) → IsOkAnd result (λ words. words.items ≡ [])) }
     ensures memory { IfErr arguments (λ error. error_kind error ≡ ErrorKind.OutOfMemory → OnOk result ⊥) }
 {
     match arguments {

@@ -4,8 +4,8 @@
 //! `Done` or `DoneUndecided` only with a whole report written, `Refused` only where the cause of that refusal is the
 //! first that stands in words and files, and a fault only where that device failed in the call; and it refuses, or
 //! reports, wherever it should, unless a device fails or no memory is found. Where a call on a device failed, the status
-//! tells so. `specs/Answers.antt` says all this status by status. Words and files have one refusal at most, none where they have a report, and `bridges` one report at most:
-//! the law `one_answer`.
+//! tells so. `specs/Answers.antt` says all this status by status. Words and files have one refusal at most, none where
+//! they have a report, and `bridges` one report at most: the law `one_answer`.
 //!
 //! There are two commands. `bridges MAP CIF SIDES` lists, for any layer map and any layout, the pairs of nets that a
 //! square defect can short, with exact counts, the likeliest first. `solve FORMULA BUDGET` searches for values that

@@ -1,3 +1,5 @@
+//! Tests of stores and arenas.
+
 use crate::{Arena, Store};
 use clause_base::{Lit, normal};
 use std::test::Fail;

@@ -92,7 +92,7 @@ pub is_formula : (vars count : ℕ) (cs : List (List ℤ)) → vars ≤ most_var
 is_formula vars count cs few fewer all literals = record {
   few_vars = omega (arith, few);
   few_clauses = omega (arith, fewer, all);
-  over = λ k d lt j e jlt. few_of vars (get_or (get_or cs k d) j e) (AllPass-from_list_all (is_literal_of vars) (get_or cs k d) (AllPass-from_list_all (are_literals vars) cs literals k d lt) j e jlt);
+  within = λ k d lt j e jlt. few_of vars (get_or (get_or cs k d) j e) (AllPass-from_list_all (is_literal_of vars) (get_or cs k d) (AllPass-from_list_all (are_literals vars) cs literals k d lt) j e jlt);
 }
 
 -- ---- headers

@@ -10,7 +10,7 @@ use Rattle.std.proofs.lemmas.List.Folds.{list_any-from_Any}
 use Rattle.std.proofs.lemmas.List.Sums.{AllPass-from_list_all}
 use Rattle.clause_base.specs.Literals.{is_in, IsRising}
 use Rattle.clause_base.specs.Solving.{IsTrueUnder}
-use Rattle.clause_base.specs.Formulas.{IsOver}
+use Rattle.clause_base.specs.Formulas.{IsClauseWithin}
 use Rattle.clause_base.specs.Novelty.{IsApart, HaveSame}
 use Rattle.clause_base.specs.Teaching.{AllButNegated, IsConsistent, IsPropagated}
 use Rattle.clause_base.proofs.LiteralLemmas.{by_test, no_both, in_contains, lacks}
@@ -39,8 +39,8 @@ same_by a b there back = record {
   back = λ k d lt. in_contains a (get_or b k d) (AllPass-from_list_all (is_in a) b back k d lt);
 }
 
-pub over_by : (vars : ℕ) (clause : List ℤ) → list_all (λ l. nat_le (nat_abs l) vars) clause ≡ true → IsOver vars clause
-over_by vars clause within k d lt = at (nat_abs (get_or clause k d)) (AllPass-from_list_all (λ l. nat_le (nat_abs l) vars) clause within k d lt) where
+pub within_by : (vars : ℕ) (clause : List ℤ) → list_all (λ l. nat_le (nat_abs l) vars) clause ≡ true → IsClauseWithin vars clause
+within_by vars clause within k d lt = at (nat_abs (get_or clause k d)) (AllPass-from_list_all (λ l. nat_le (nat_abs l) vars) clause within k d lt) where
   at : (n : ℕ) → nat_le n vars ≡ true → n ≤ vars
   at n is = grind (arith, nat_tests, is)
 

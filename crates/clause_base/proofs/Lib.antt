@@ -2,6 +2,7 @@ pub mod LiteralLemmas
 pub mod Rising
 pub mod Solved
 pub mod Teachings
+pub mod Tautologies
 pub mod PartLemmas
 pub mod NumberLemmas
 pub mod ReadingLemmas

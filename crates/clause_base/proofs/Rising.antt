@@ -14,6 +14,7 @@ use Rattle.std.proofs.lemmas.List.Sorted.{Contains-permutation, searchable_from_
 use Rattle.std.proofs.lemmas.List.Kept.{IsStrictlySortedBy-dedup, Contains-dedup, Contains-from_dedup}
 use Rattle.clause_base.specs.Literals.{IsRising}
 use Rattle.clause_base.specs.Novelty.{HaveSame, IsApart}
+use Rattle.clause_base.proofs.LiteralLemmas.{same_lit}
 
 -- ---- sorted, and each once
 
@@ -32,13 +33,10 @@ rising_at (x ∷ xs) sorted (suc j) (suc k) d jk lt = rising_at xs sorted.1 j k 
 pub rising_from : (sorted kept : List ℤ) → IsSorted int_cmp sorted → kept ≡ dedup int_eq sorted → IsRising kept
 rising_from sorted kept up is = subst IsRising (sym is) (record { rising = rising_at (dedup int_eq sorted) (IsStrictlySortedBy-dedup int_cmp_total (λ x y. refl) sorted up) })
 
-equal_is : (x y : ℤ) → int_eq x y ≡ true → x ≡ y
-equal_is x y is = grind (arith, ints, nat_tests, is)
-
 pub same_from : (clause lits sorted kept : List ℤ) → lits ≡ clause → IsPermutation lits sorted → kept ≡ dedup int_eq sorted → HaveSame clause kept
 same_from clause lits sorted kept copy moved is = record {
   there = λ k d lt. subst (λ xs. Contains xs (get_or clause k d)) (sym is)
-      (Contains-dedup int_eq_equiv equal_is sorted (get_or clause k d)
+      (Contains-dedup int_eq_equiv same_lit sorted (get_or clause k d)
       (Contains-permutation lits sorted (get_or clause k d) moved (subst (λ xs. Contains xs (get_or clause k d)) (sym copy) (Contains-get_or clause k d lt))));
   back = λ k d lt. subst (λ xs. Contains xs (get_or kept k d)) copy
       (Contains-permutation sorted lits (get_or kept k d) (IsPermutation-sym lits sorted moved)
@@ -52,7 +50,7 @@ rises xs up k d low lt = not_below (get_or xs k d) (get_or xs (k + 1) d) (up.ris
   not_below : (a b : ℤ) → a <ℤ b → is_lt (int_cmp b a) ≡ false
   not_below a b ab = grind (arith, ints, nat_tests, ab)
 
-not_self : {P : Type 0} (x : ℤ) → x <ℤ x → P
+pub not_self : {P : Type 0} (x : ℤ) → x <ℤ x → P
 not_self x less = let none : ⊥ = grind (arith, ints, less) in absurd none
 
 pub no_place : (xs : List ℤ) (x : ℤ) (result : Result ℕ ℕ) → IsRising xs → IsBinarySearchResult (λ y. int_cmp y x) xs result → is_ok result ≡ false → Contains xs x → ⊥

@@ -8,9 +8,9 @@ use Rattle.std.proofs.lemmas.Int.{ints}
 use Rattle.clause_base.specs.declared.faults.FormulaFault.TheVariants.{Syntax, TooLarge, NoMemory}
 use Rattle.clause_base.specs.Literals.{is_literal, IsLiteral, code_of, is_in, IsRising}
 use Rattle.clause_base.specs.Solving.{is_true_under, IsTrueUnder, Solves}
-use Rattle.clause_base.specs.Novelty.{IsApart, HaveSame, IsNew}
+use Rattle.clause_base.specs.Novelty.{IsApart, IsTautology, HaveSame, IsNew}
 use Rattle.clause_base.specs.Teaching.{IsConsistent, IsPropagated, IsClosed, Teaches, IsOpen}
-use Rattle.clause_base.specs.Formulas.{Clauses, IsOver, IsFormula}
+use Rattle.clause_base.specs.Formulas.{Clauses, IsClauseWithin, IsFormula}
 use Rattle.clause_base.specs.TextWords.{Word, words_of, texts_of}
 use Rattle.clause_base.specs.FormulaText.{is_literal_of, clause_texts, IsEnd, SpellsFormula}
 use Rattle.clause_base.specs.FormulaFaults.{is_number, IsFront, IsOverMost, IsTooLarge, IsFormulaFault}
@@ -20,7 +20,7 @@ use Rattle.clause_base.proofs.NumberLemmas.{value-decimal, within}
 use Rattle.clause_base.proofs.FormulaLemmas.{head_same, begins_vars, front_none, front_cnf}
 use Rattle.clause_base.proofs.FaultLemmas.{no_clause, not_both}
 use Rattle.clause_base.proofs.Teachings.{is_apart, no_superset}
-use Rattle.clause_base.proofs.Instances.{all, rising_by, same_by, over_by, not_true, apart_by, propagated_by_one, propagated_by_two, forced}
+use Rattle.clause_base.proofs.Instances.{all, rising_by, same_by, within_by, not_true, apart_by, propagated_by_one, propagated_by_two, forced}
 
 -- ---- literals
 
@@ -37,7 +37,7 @@ too_low : is_literal (negsuc 2147483647) ≡ false
 too_low = refl
 
 nought : IsLiteral (pos 0) → ⊥
-nought is = omega (arith, is.some)
+nought is = no_both is refl
 
 variable_code : code_of (pos 3) ≡ 6
 variable_code = refl
@@ -75,17 +75,23 @@ apart : IsApart repeats
 unfolding repeats
 apart = apart_by repeats refl
 
-tautology : IsApart (pos 1 ∷ negsuc 0 ∷ []) → ⊥
-tautology apart = apart.apart (pos 1) (0, omega arith, refl) (1, omega arith, refl)
+not_apart : IsApart (pos 1 ∷ negsuc 0 ∷ []) → ⊥
+not_apart apart = apart.apart (pos 1) (0, omega arith, refl) (1, omega arith, refl)
 
-within_three : IsOver 3 (pos 3 ∷ negsuc 2 ∷ [])
-within_three = over_by 3 (pos 3 ∷ negsuc 2 ∷ []) refl
+tautology : IsTautology (pos 1 ∷ negsuc 0 ∷ [])
+tautology = record { lit = pos 1; there = (0, omega arith, refl); back = (1, omega arith, refl); differ = differ (pos 1) (negsuc 0) refl }
 
-over_two : IsOver 2 (pos 1 ∷ negsuc 2 ∷ []) → ⊥
-over_two over = omega (arith, over 1 (pos 0) (omega arith))
+pub no_tautology : IsTautology (pos 1 ∷ pos 2 ∷ []) → ⊥
+no_tautology t = (apart_by (pos 1 ∷ pos 2 ∷ []) refl).apart t.lit t.there t.back
+
+within_three : IsClauseWithin 3 (pos 3 ∷ negsuc 2 ∷ [])
+within_three = within_by 3 (pos 3 ∷ negsuc 2 ∷ []) refl
+
+beyond_two : IsClauseWithin 2 (pos 1 ∷ negsuc 2 ∷ []) → ⊥
+beyond_two within = omega (arith, within 1 (pos 0) (omega arith))
 
 most_variables : IsFormula 2147483647 ([] ∷ [])
-most_variables = record { few_vars = omega arith; few_clauses = omega arith; over = all (IsOver 2147483647) ([] ∷ []) (over_by 2147483647 [] refl, tt) }
+most_variables = record { few_vars = omega arith; few_clauses = omega arith; within = all (IsClauseWithin 2147483647) ([] ∷ []) (within_by 2147483647 [] refl, tt) }
 
 too_many_variables : IsFormula 2147483648 [] → ⊥
 too_many_variables kept = omega (arith, kept.few_vars)
@@ -233,10 +239,10 @@ empty_is_new : IsNew [] []
 empty_is_new = record { apart = apart_by [] refl; fresh = all (λ other. HaveSame other [] → ⊥) [] tt }
 
 tautology_is_not_new : (earlier : List (List ℤ)) → IsNew earlier (pos 1 ∷ negsuc 0 ∷ []) → ⊥
-tautology_is_not_new earlier new = tautology new.apart
+tautology_is_not_new earlier new = not_apart new.apart
 
 tautology_teaches_nothing : (earlier : List (List ℤ)) → Teaches earlier (pos 1 ∷ negsuc 0 ∷ []) → ⊥
-tautology_teaches_nothing earlier h = tautology (is_apart earlier (pos 1 ∷ negsuc 0 ∷ []) h (all (λ l. l ≢ pos 0) (pos 1 ∷ negsuc 0 ∷ []) (differ (pos 1) (pos 0) refl, (differ (negsuc 0) (pos 0) refl, tt))))
+tautology_teaches_nothing earlier h = not_apart (is_apart earlier (pos 1 ∷ negsuc 0 ∷ []) h (all (λ l. l ≢ pos 0) (pos 1 ∷ negsuc 0 ∷ []) (differ (pos 1) (pos 0) refl, (differ (negsuc 0) (pos 0) refl, tt))))
 
 empty_teaches_nothing : (earlier : List (List ℤ)) → Teaches earlier [] → ⊥
 empty_teaches_nothing earlier h = lacks [] h.lit refl h.there

@@ -1,5 +1,5 @@
 -- Literals: a variable, a number from 1, or its negation, the number below 0.
-use Rattle.std.specs.Prelude.{ℕ, ◌+◌, ◌*◌, ◌<◌, ◌^◌, ℤ, pos, negsuc, ◌<ℤ◌, nat_abs, Bool, ◌&&◌, nat_lt, List, length, slice_index_or}
+use Rattle.std.specs.Prelude.{◌≡◌, ℕ, ◌+◌, ◌*◌, ◌<◌, ◌^◌, ℤ, pos, negsuc, ◌<ℤ◌, nat_abs, Bool, true, ◌&&◌, nat_lt, List, length, slice_index_or}
 use Rattle.std.specs.Ordering.{int_eq}
 use Rattle.std.specs.List.{list_any}
 
@@ -7,9 +7,8 @@ use Rattle.std.specs.List.{list_any}
 abbrev pub is_literal : ℤ → Bool
 is_literal z = nat_lt 0 (nat_abs z) && nat_lt (nat_abs z) (2 ^ 31)
 
-pub record IsLiteral (z : ℤ) : Type 0 where
-  pub some : 0 < nat_abs z
-  pub small : nat_abs z < 2 ^ 31
+abbrev pub IsLiteral : ℤ → Type 0
+IsLiteral z = is_literal z ≡ true
 
 -- the literals of a clause, as a set
 abbrev pub is_in : List ℤ → ℤ → Bool

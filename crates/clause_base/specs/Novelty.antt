@@ -1,9 +1,17 @@
 -- When a clause says something that no earlier clause says.
-use Rattle.std.specs.Prelude.{ℤ, neg_ℤ, List, All, Contains}
+use Rattle.std.specs.Prelude.{◌≢◌, ℤ, neg_ℤ, List, All, Contains}
 
 -- no literal stands beside its negation
 pub record IsApart (clause : List ℤ) : Type 0 where
   pub apart : (l : ℤ) → Contains clause l → Contains clause (neg_ℤ l) → ⊥
+
+-- A literal stands beside its negation, and this is the literal. A list of literals is a tautology exactly where it isn't
+-- apart: that is the law `tautology_or_apart`.
+pub record IsTautology (clause : List ℤ) : Type 0 where
+  pub lit : ℤ
+  pub there : Contains clause lit
+  pub back : Contains clause (neg_ℤ lit)
+  pub differ : lit ≢ neg_ℤ lit
 
 -- two clauses list the same literals
 pub record HaveSame (a b : List ℤ) : Type 0 where

@@ -1,6 +1,8 @@
+//! Clauses: lists of literals, and their forms in rising order.
+
 ghost use Rattle.std.specs.Prelude.{◌≡◌, ◌↔◌, IsTrue, IfOk, IfSome, IfNone};
 ghost use Rattle.clause_base.specs.Literals.{IsRising};
-ghost use Rattle.clause_base.specs.Formulas.{IsOver};
+ghost use Rattle.clause_base.specs.Formulas.{IsClauseWithin};
 ghost use Rattle.clause_base.specs.Novelty.{IsApart, HaveSame};
 
 use crate::literals::Lit;
@@ -23,7 +25,7 @@ impl Model for Clause {
 
 impl Clause {
     ghost use Rattle.std.specs.Prelude.{◌≡◌, ◌↔◌, IsTrue, IfOk};
-    ghost use Rattle.clause_base.specs.Formulas.{IsOver};
+    ghost use Rattle.clause_base.specs.Formulas.{IsClauseWithin};
 
     /// The clause of these literals, in their order. It fails only where no memory is found.
     pub fn new(alloc: Global, lits: &[Lit]) -> Result<Clause, AllocError>
@@ -34,11 +36,11 @@ impl Clause {
         })
     }
 
-    /// Whether no variable of the clause is over `vars`.
-    pub fn is_over(&self, vars: u32) -> bool
-        ensures { IsTrue result ↔ IsOver vars self.now }
+    /// Whether each variable of the clause is within `vars`: from 1 to `vars`.
+    pub fn is_within(&self, vars: u32) -> bool
+        ensures { IsTrue result ↔ IsClauseWithin vars self.now }
     {
-        are_over(self.lits.as_slice(), vars)
+        are_within(self.lits.as_slice(), vars)
     }
 
     /// The literals.
@@ -49,8 +51,9 @@ impl Clause {
     }
 }
 
-fn are_over(lits: &[Lit], vars: u32) -> bool
-    ensures { IsTrue result ↔ IsOver vars lits.now }
+/// Whether each variable of the literals is within `vars`.
+fn are_within(lits: &[Lit], vars: u32) -> bool
+    ensures { IsTrue result ↔ IsClauseWithin vars lits.now }
 {
     lits.iter().all(|lit| lit.variable() <= vars)
 }

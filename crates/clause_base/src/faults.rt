@@ -11,7 +11,7 @@ pub enum FormulaFault {
     Syntax(u64),
     /// The word at this position is a number of variables over 1,000,000, or one of clauses over 4,000,000.
     TooLarge(u64),
-    /// No memory is found.
+    /// No memory is found for the clauses.
     NoMemory,
 }
 

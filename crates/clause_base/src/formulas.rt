@@ -1,6 +1,8 @@
+//! Formulas, and whether values solve them.
+
 ghost use Rattle.std.specs.Prelude.{◌≡◌, ◌≤◌, ◌↔◌, IsTrue, All, length};
 ghost use Rattle.clause_base.specs.Solving.{is_true_under, IsTrueUnder, Solves};
-ghost use Rattle.clause_base.specs.Formulas.{IsFormula, IsOver};
+ghost use Rattle.clause_base.specs.Formulas.{IsFormula, IsClauseWithin};
 
 use crate::clauses::Clause;
 use crate::literals::Lit;
@@ -64,7 +66,7 @@ pub fn solves(formula: &Formula, values: &[bool]) -> bool
 
 /// Whether the values make a literal of the clause true.
 fn is_true(clause: &[Lit], values: &[bool]) -> bool
-    requires { IsOver (length values.now) clause.now }
+    requires { IsClauseWithin (length values.now) clause.now }
     ensures { IsTrue result ↔ IsTrueUnder (is_true_under values.now) clause.now }
 {
     clause.iter().any(|lit| is_lit_true(*lit, values))

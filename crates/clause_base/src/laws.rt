@@ -1,12 +1,19 @@
-//! Laws of clauses that teach, and of texts that spell formulas.
+//! Laws of tautologies, of clauses that teach, and of texts that spell formulas.
 
-ghost use Rattle.std.specs.Prelude.{◌≡◌, ◌≢◌, ℕ, ℤ, pos, List, All, Contains};
-ghost use Rattle.clause_base.specs.Novelty.{IsNew};
+ghost use Rattle.std.specs.Prelude.{◌≡◌, ◌≢◌, ◌⊎◌, ℕ, ℤ, pos, List, All, Contains};
+ghost use Rattle.clause_base.specs.Novelty.{IsApart, IsTautology, IsNew};
 ghost use Rattle.clause_base.specs.Teaching.{Teaches};
 ghost use Rattle.clause_base.specs.Formulas.{Clauses};
 ghost use Rattle.clause_base.specs.FormulaText.{SpellsFormula};
 ghost use Rattle.clause_base.specs.FormulaFaults.{IsFormulaFault};
 ghost use Rattle.clause_base.specs.declared.faults.FormulaFault.{FormulaFault};
+
+/// A clause of literals is a tautology exactly where it isn't apart: no literal stands beside its negation in a clause that
+/// is no tautology, and in one that is, some literal does.
+pub fn tautology_or_apart()
+    ensures not_both { (clause : List ℤ) → IsTautology clause → IsApart clause → ⊥ }
+    ensures one { (clause : List ℤ) → All (λ l. l ≢ pos 0) clause → (IsTautology clause ⊎ IsApart clause) }
+{}
 
 /// A clause that teaches has no earlier clause as a subset.
 pub fn teaching_is_no_superset()

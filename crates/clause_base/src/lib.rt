@@ -22,7 +22,7 @@ mod words;
 pub use clauses::{Clause, distinct, normal};
 pub use faults::FormulaFault;
 pub use formulas::{Formula, solves};
-pub use laws::{one_answer, teaching_is_new, teaching_is_no_superset};
+pub use laws::{one_answer, tautology_or_apart, teaching_is_new, teaching_is_no_superset};
 pub use literals::Lit;
 pub use reading::read_formula;
 

@@ -1,3 +1,5 @@
+//! Literals: variables and their negations.
+
 ghost use Rattle.std.specs.Prelude.{◌≡◌, neg_ℤ, nat_abs, Some, None, if◌then◌else◌};
 ghost use Rattle.clause_base.specs.Literals.{is_literal, IsLiteral, code_of};
 

@@ -27,6 +27,7 @@ fn is_number(word: &[u8]) -> bool
     are_digits(word) && (*first != b'0' || rest.is_empty())
 }
 
+/// Whether each byte is a decimal digit.
 fn are_digits(word: &[u8]) -> bool
     ensures { result ≡ list_all is_ascii_digit word.now }
 {

@@ -1,3 +1,5 @@
+//! Tests of literals, clauses, formulas and their texts.
+
 use crate::{Clause, Formula, FormulaFault, Lit, distinct, normal, read_formula, solves};
 use std::alloc::{AllocError, Global};
 use std::test::Fail;
@@ -65,7 +67,7 @@ fn values_solve_a_formula(rt: HostRuntime) -> Result<(), Fail> {
     let alloc = rt.alloc();
     let first = Clause::new(alloc, lits(alloc, &[1, 2])?.as_slice())?;
     let second = Clause::new(alloc, lits(alloc, &[1, -2])?.as_slice())?;
-    if !first.is_over(2) || !second.is_over(2) || second.is_over(1) {
+    if !first.is_within(2) || !second.is_within(2) || second.is_within(1) {
         return Err(Fail::from("two variables"));
     }
     let mut clauses = Vec::new(alloc);

@@ -47,6 +47,7 @@ impl<'a> Words<'a> {
     }
 }
 
+/// Whether the byte is a space, tab, CR or LF.
 fn is_white(byte: u8) -> bool
     ensures { result ≡ is_white_lem byte }
 {
@@ -69,6 +70,7 @@ fn line_len(text: &[u8]) -> usize
     text.iter().take_while(|byte| **byte != b'\n').count()
 }
 
+/// Whether the line begins with `c`.
 fn is_comment(line: &[u8]) -> bool
     ensures { result ≡ is_comment_lem line.now }
 {

@@ -6,30 +6,31 @@ use Rattle.std.proofs.lemmas.Bool.{cases_lt}
 use Rattle.std.proofs.lemmas.List.{take_all, take-append-le, length_push, get_or_past, get_or_default}
 use Rattle.std.proofs.lemmas.List.Elements.{All-contains}
 use Rattle.clause_base.specs.Literals.{is_in}
+use Rattle.clause_base.specs.Novelty.{IsTautology}
 use Rattle.clause_base.specs.Teaching.{IsConsistent, IsPropagated}
 use Rattle.clause_base.proofs.LiteralLemmas.{by_test, no_both, in_contains}
 use Rattle.search_trail.specs.Trails.{Search, IsOnce, lit_at, start_at, front, front_size, with_implied}
 use Rattle.search_trail.proofs.Members.{in_from, in_taken, in_further, in_pushed, take_at, at_take, lit_new}
 use Rattle.clause_watches.specs.Listing.{IsOther}
-use Rattle.clause_watches.specs.Watching.{IsBacked, IsGuarded, IsTautology, IsKept}
+use Rattle.clause_watches.specs.Watching.{IsBacked, IsGuarded, IsWatched}
 
 pub turned : (s : Search) (head : ℕ) (clause : List ℤ) (a b : ℤ) → IsGuarded s head clause a b → IsGuarded s head clause b a
 turned s head clause a b g = record { first = g.second; second = g.first; differ = λ same. g.differ (sym same); first_backed = g.second_backed; second_backed = g.first_backed }
 
-pub guard_of : (s : Search) (head : ℕ) (clause : List ℤ) (pair : Option (ℤ × ℤ)) (gone other : ℤ) → IsOther pair gone other → IsKept s head clause pair → IsGuarded s head clause gone other
-guard_of s head clause pair gone other (inl is) kept = subst (IsKept s head clause) is kept
-guard_of s head clause pair gone other (inr is) kept = turned s head clause other gone (subst (IsKept s head clause) is kept)
+pub guard_of : (s : Search) (head : ℕ) (clause : List ℤ) (pair : Option (ℤ × ℤ)) (gone other : ℤ) → IsOther pair gone other → IsWatched s head clause pair → IsGuarded s head clause gone other
+guard_of s head clause pair gone other (inl is) kept = subst (IsWatched s head clause) is kept
+guard_of s head clause pair gone other (inr is) kept = turned s head clause other gone (subst (IsWatched s head clause) is kept)
 
-pub kept_of : (s : Search) (head : ℕ) (clause : List ℤ) (pair : Option (ℤ × ℤ)) (gone other : ℤ) → IsOther pair gone other → IsGuarded s head clause gone other → IsKept s head clause pair
-kept_of s head clause pair gone other (inl is) g = subst (IsKept s head clause) (sym is) g
-kept_of s head clause pair gone other (inr is) g = subst (IsKept s head clause) (sym is) (turned s head clause gone other g)
+pub kept_of : (s : Search) (head : ℕ) (clause : List ℤ) (pair : Option (ℤ × ℤ)) (gone other : ℤ) → IsOther pair gone other → IsGuarded s head clause gone other → IsWatched s head clause pair
+kept_of s head clause pair gone other (inl is) g = subst (IsWatched s head clause) (sym is) g
+kept_of s head clause pair gone other (inr is) g = subst (IsWatched s head clause) (sym is) (turned s head clause gone other g)
 
 -- ---- fewer literals gone through
 
 backed_lower : (s : Search) (low high : ℕ) (a b : ℤ) → low ≤ high → IsBacked s high a b → IsBacked s low a b
 backed_lower s low high a b le is = record { backed = λ gone. is.backed (in_further s.lits low high (neg_ℤ a) le gone) }
 
-pub kept_lower : (s : Search) (low high : ℕ) (clause : List ℤ) (pair : Option (ℤ × ℤ)) → low ≤ high → IsKept s high clause pair → IsKept s low clause pair
+pub kept_lower : (s : Search) (low high : ℕ) (clause : List ℤ) (pair : Option (ℤ × ℤ)) → low ≤ high → IsWatched s high clause pair → IsWatched s low clause pair
 kept_lower s low high clause None le kept = kept
 kept_lower s low high clause (Some (a, b)) le kept = record {
   first = kept.first;
@@ -182,7 +183,7 @@ module _ (s : Search) (once : IsOnce s.lits) (head : ℕ) (levels : (j : ℕ) �
       };
     }
 
-  pub kept_implied : (lit : ℤ) (number : ℕ) (clause : List ℤ) (pair : Option (ℤ × ℤ)) → head ≤ length s.lits → IsKept s head clause pair → IsKept (with_implied s lit number) head clause pair
+  pub kept_implied : (lit : ℤ) (number : ℕ) (clause : List ℤ) (pair : Option (ℤ × ℤ)) → head ≤ length s.lits → IsWatched s head clause pair → IsWatched (with_implied s lit number) head clause pair
   kept_implied lit number clause None within (inl twice) = inl twice
   kept_implied lit number clause None within (inr fixed) = let (k, m, lt, at, is) = fixed in inr (k, m, lt, at, in_front lit number within 0 m is)
   kept_implied lit number clause (Some (a, b)) within g = record {

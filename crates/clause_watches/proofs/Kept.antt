@@ -9,7 +9,7 @@ use Rattle.search_trail.specs.Trails.{Search, IsSearch, start_at, front, front_s
 use Rattle.search_trail.proofs.Members.{in_further}
 use Rattle.search_trail.proofs.Growing.{size_inside}
 use Rattle.clause_watches.specs.Listing.{pair_of}
-use Rattle.clause_watches.specs.Watching.{Watched, IsBacked, IsKept, AreKept, with_pair, gone_back}
+use Rattle.clause_watches.specs.Watching.{Watched, IsBacked, IsWatched, AreWatched, with_pair, gone_back}
 use Rattle.clause_watches.proofs.Fronts.{by_level, guarded, fixed, tautology, on_trail, kept_implied}
 
 -- ---- closed
@@ -27,7 +27,7 @@ lowest s level t = by_level s 0
       | inr zero_is ↦ let is : 0 ≡ level = omega (arith, zero_is) in omega (arith, ap (λ m. front_size s m) is)
     ]
 
-pub closed : (s : Search) (w : Watched) (level : ℕ) → IsSearch s → AreKept s w → front_size s level ≤ w.head → IsClosed (is_in (front s level)) s.clauses
+pub closed : (s : Search) (w : Watched) (level : ℕ) → IsSearch s → AreWatched s w → front_size s level ≤ w.head → IsClosed (is_in (front s level)) s.clauses
 closed s w level t k low n d lt = subst (IsPropagated (is_in (front s level))) (sym same) (by_pair (pair_of w.pairs (n + 1)) (k.kept (n + 1) known)) where
   known : IsNumber s.clauses (n + 1)
   known = record { some = omega arith; most = omega (arith, lt) }
@@ -37,7 +37,7 @@ closed s w level t k low n d lt = subst (IsPropagated (is_in (front s level))) (
     less : (n : ℕ) → n ≡ n + 1 - 1
     less n = omega arith
 
-  by_pair : (pair : Option (ℤ × ℤ)) → IsKept s w.head (numbered s.clauses (n + 1)) pair → IsPropagated (is_in (front s level)) (numbered s.clauses (n + 1))
+  by_pair : (pair : Option (ℤ × ℤ)) → IsWatched s w.head (numbered s.clauses (n + 1)) pair → IsPropagated (is_in (front s level)) (numbered s.clauses (n + 1))
   by_pair None (inl twice) = tautology s t.once (front_size s level) w.head level refl low (numbered s.clauses (n + 1)) twice
   by_pair None (inr true_) = let (j, m, jlt, at, is) = true_ in
       fixed s t.once (front_size s level) w.head level refl low (numbered s.clauses (n + 1)) m (j, jlt, at) (in_further s.lits (front_size s 0) (front_size s level) m (lowest s level t) is)
@@ -45,7 +45,7 @@ closed s w level t k low n d lt = subst (IsPropagated (is_in (front s level))) (
 
 -- ---- a clause or a literal more
 
-same_kept : (s : Search) (clause : List ℤ) (head : ℕ) (other : List ℤ) (pair : Option (ℤ × ℤ)) → IsKept s head other pair → IsKept (with_clause s clause) head other pair
+same_kept : (s : Search) (clause : List ℤ) (head : ℕ) (other : List ℤ) (pair : Option (ℤ × ℤ)) → IsWatched s head other pair → IsWatched (with_clause s clause) head other pair
 same_kept s clause head other None kept = kept
 same_kept s clause head other (Some (a, b)) g = record {
   first = g.first;
@@ -55,18 +55,18 @@ same_kept s clause head other (Some (a, b)) g = record {
   second_backed = record { backed = g.second_backed.backed };
 }
 
-pub clause_kept : (s : Search) (w : Watched) (clause : List ℤ) (pair : Option (ℤ × ℤ)) → AreKept s w → IsKept s w.head clause pair → AreKept (with_clause s clause) (with_pair w pair)
+pub clause_kept : (s : Search) (w : Watched) (clause : List ℤ) (pair : Option (ℤ × ℤ)) → AreWatched s w → IsWatched s w.head clause pair → AreWatched (with_clause s clause) (with_pair w pair)
 clause_kept s w clause pair k kept = record {
   vars = k.vars;
   paired = length_push w.pairs pair ∙ ap (λ n. n + 1) k.paired ∙ sym (length_push s.clauses clause);
   gone = k.gone;
   levels = k.levels;
   kept = λ n known. elim (cases_lt (n - 1) (length s.clauses)) [
-    | inl less ↦ subst (λ c. IsKept (with_clause s clause) w.head c (pair_of (w.pairs ++ pair ∷ []) n)) (sym (get_or_append_left s.clauses (clause ∷ []) [] (n - 1) less))
-        (subst (IsKept (with_clause s clause) w.head (numbered s.clauses n)) (sym (get_or_append_left w.pairs (pair ∷ []) None (n - 1) (omega (arith, less, k.paired))))
+    | inl less ↦ subst (λ c. IsWatched (with_clause s clause) w.head c (pair_of (w.pairs ++ pair ∷ []) n)) (sym (get_or_append_left s.clauses (clause ∷ []) [] (n - 1) less))
+        (subst (IsWatched (with_clause s clause) w.head (numbered s.clauses n)) (sym (get_or_append_left w.pairs (pair ∷ []) None (n - 1) (omega (arith, less, k.paired))))
         (same_kept s clause w.head (numbered s.clauses n) (pair_of w.pairs n) (k.kept n (old n less known.some))))
-    | inr more ↦ subst (λ c. IsKept (with_clause s clause) w.head c (pair_of (w.pairs ++ pair ∷ []) n)) (sym (get_or_push s.clauses clause [] (n - 1) (last n more known.most)))
-        (subst (IsKept (with_clause s clause) w.head clause) (sym (get_or_push w.pairs pair None (n - 1) (k.paired ∙ last n more known.most)))
+    | inr more ↦ subst (λ c. IsWatched (with_clause s clause) w.head c (pair_of (w.pairs ++ pair ∷ []) n)) (sym (get_or_push s.clauses clause [] (n - 1) (last n more known.most)))
+        (subst (IsWatched (with_clause s clause) w.head clause) (sym (get_or_push w.pairs pair None (n - 1) (k.paired ∙ last n more known.most)))
         (same_kept s clause w.head clause pair kept))
   ];
 } where
@@ -76,7 +76,7 @@ clause_kept s w clause pair k kept = record {
   last : (n : ℕ) → length s.clauses ≤ n - 1 → n ≤ length (s.clauses ++ clause ∷ []) → length s.clauses ≡ n - 1
   last n more most = omega (arith, more, most, length_push s.clauses clause)
 
-pub implied_kept : (s : Search) (w : Watched) (lit : ℤ) (number : ℕ) → IsSearch s → AreKept s w → AreKept (with_implied s lit number) w
+pub implied_kept : (s : Search) (w : Watched) (lit : ℤ) (number : ℕ) → IsSearch s → AreWatched s w → AreWatched (with_implied s lit number) w
 implied_kept s w lit number t k = record {
   vars = k.vars;
   paired = k.paired;
@@ -87,7 +87,7 @@ implied_kept s w lit number t k = record {
 
 -- ---- a level begins
 
-module _ (s : Search) (w : Watched) (lit : ℤ) (t : IsSearch s) (k : AreKept s w) (all : w.head ≡ length s.lits) where
+module _ (s : Search) (w : Watched) (lit : ℤ) (t : IsSearch s) (k : AreWatched s w) (all : w.head ≡ length s.lits) where
   low_same : (level : ℕ) → level < length s.starts → front (with_decision s lit) level ≡ front s level
   low_same level less =
       ap (λ n. take n (s.lits ++ lit ∷ [])) (get_or_append_left s.starts (length s.lits ∷ []) (length (s.lits ++ lit ∷ [])) level less ∙ get_or_default s.starts level (length (s.lits ++ lit ∷ [])) (length s.lits) less)
@@ -120,12 +120,12 @@ module _ (s : Search) (w : Watched) (lit : ℤ) (t : IsSearch s) (k : AreKept s 
         (λ more top. high_in level b more (on_trail s t.once w.head k.levels a b is was));
   }
 
-  decided : (clause : List ℤ) (pair : Option (ℤ × ℤ)) → IsKept s w.head clause pair → IsKept (with_decision s lit) w.head clause pair
+  decided : (clause : List ℤ) (pair : Option (ℤ × ℤ)) → IsWatched s w.head clause pair → IsWatched (with_decision s lit) w.head clause pair
   decided clause None (inl twice) = inl twice
   decided clause None (inr true_) = let (j, m, jlt, at, is) = true_ in inr (j, m, jlt, at, in_front 0 m is)
   decided clause (Some (a, b)) g = record { first = g.first; second = g.second; differ = g.differ; first_backed = backed a b g.first_backed; second_backed = backed b a g.second_backed }
 
-  pub decision_kept : AreKept (with_decision s lit) w
+  pub decision_kept : AreWatched (with_decision s lit) w
   decision_kept = record {
     vars = k.vars;
     paired = k.paired;
@@ -139,7 +139,7 @@ module _ (s : Search) (w : Watched) (lit : ℤ) (t : IsSearch s) (k : AreKept s 
 
 -- ---- levels are taken back
 
-module _ (s : Search) (w : Watched) (level : ℕ) (t : IsSearch s) (k : AreKept s w) where
+module _ (s : Search) (w : Watched) (level : ℕ) (t : IsSearch s) (k : AreWatched s w) where
   abbrev size : ℕ
   size = front_size s level
 
@@ -185,13 +185,13 @@ module _ (s : Search) (w : Watched) (level : ℕ) (t : IsSearch s) (k : AreKept 
         (λ more on. is.backed (passed (neg_ℤ a) gone) level on);
   }
 
-  back_one : (clause : List ℤ) (pair : Option (ℤ × ℤ)) → IsKept s w.head clause pair → IsKept s' (min w.head size) clause pair
+  back_one : (clause : List ℤ) (pair : Option (ℤ × ℤ)) → IsWatched s w.head clause pair → IsWatched s' (min w.head size) clause pair
   back_one clause None (inl twice) = inl twice
   back_one clause None (inr true_) = let (j, m, jlt, at, is) = true_ in
       inr (j, m, jlt, at, by_front (λ ls. is_in ls m ≡ true) 0 (λ less. is) (λ more. in_further s.lits (front_size s 0) (front_size s level) m (lowest s level t) is))
   back_one clause (Some (a, b)) g = record { first = g.first; second = g.second; differ = g.differ; first_backed = back_backed a b g.first_backed; second_backed = back_backed b a g.second_backed }
 
-  pub back_kept : AreKept s' (gone_back w size)
+  pub back_kept : AreWatched s' (gone_back w size)
   back_kept = record {
     vars = k.vars;
     paired = k.paired;

@@ -14,17 +14,21 @@ code_inside lists l index lt = elim (cases_lt (code_of l) (length lists)) [
   | inr more ↦ absurd (omega (arith, lt, ap length (get_or_past lists (code_of l) [] more)))
 ]
 
+-- a place behind a list with one more
+past_push : {A : Type 0} (xs : List A) (y : A) (k : ℕ) → length xs ≤ k → (length xs ≡ k → ⊥) → length (xs ++ y ∷ []) ≤ k
+past_push xs y k more other = let size = length_push xs y in grind (arith, size, more, other)
+
+none_some : {P : Type 0} (p : ℤ × ℤ) → None ≡ Some p → P
+none_some p same = let both : ⊥ = cc in absurd both
+
 pub empty_more : (xs : List (List ℕ)) (y : List ℕ) → y ≡ [] → ((k : ℕ) → get_or xs k [] ≡ []) → (k : ℕ) → get_or (xs ++ y ∷ []) k [] ≡ []
 empty_more xs y is empty k = elim (cases_lt k (length xs)) [
   | inl less ↦ get_or_append_left xs (y ∷ []) [] k less ∙ empty k
   | inr more ↦ elim (cases_eq (length xs) k) [
     | inl same ↦ get_or_push xs y [] k same ∙ is
-    | inr other ↦ get_or_past (xs ++ y ∷ []) k [] (past k more other)
+    | inr other ↦ get_or_past (xs ++ y ∷ []) k [] (past_push xs y k more other)
   ]
 ]
-  where
-    past : (k : ℕ) → length xs ≤ k → (length xs ≡ k → ⊥) → length (xs ++ y ∷ []) ≤ k
-    past k more other = let size = length_push xs y in grind (arith, size, more, other)
 
 -- one list is changed
 module _ (lists : List (List ℕ)) (lit : ℤ) (c : ℕ) (old new : List ℕ) (is : c ≡ code_of lit) (lt : code_of lit < length lists) (was : old ≡ get_or lists c old) where
@@ -107,20 +111,14 @@ module _ (pairs : List (Option (ℤ × ℤ))) (lists new : List (List ℕ)) (are
     last : (n : ℕ) → 0 < n → length pairs ≡ n - 1 → number ≡ n
     last n some same = omega (arith, some, same, is)
 
-    none_some : {P : Type 0} (p : ℤ × ℤ) → None ≡ Some p → P
-    none_some p same = let both : ⊥ = cc in absurd both
-
     by_place : {P : Type 0} (n : ℕ) (a b : ℤ) → 0 < n → pair_of (pairs ++ pair ∷ []) n ≡ Some (a, b) → (pair_of pairs n ≡ Some (a, b) → P) → (length pairs ≡ n - 1 → P) → P
     by_place n a b some at old new_ = elim (cases_lt (n - 1) (length pairs)) [
       | inl less ↦ old (sym (get_or_append_left pairs (pair ∷ []) None (n - 1) less) ∙ at)
       | inr more ↦ elim (cases_eq (length pairs) (n - 1)) [
         | inl same ↦ new_ same
-        | inr other ↦ none_some (a, b) (sym (get_or_past (pairs ++ pair ∷ []) (n - 1) None (past (n - 1) more other)) ∙ at)
+        | inr other ↦ none_some (a, b) (sym (get_or_past (pairs ++ pair ∷ []) (n - 1) None (past_push pairs pair (n - 1) more other)) ∙ at)
       ]
     ]
-      where
-        past : (k : ℕ) → length pairs ≤ k → (length pairs ≡ k → ⊥) → length (pairs ++ pair ∷ []) ≤ k
-        past k more other = let size = length_push pairs pair in grind (arith, size, more, other)
 
     first_of : (p : Option (ℤ × ℤ)) → IfSome p (λ lits. Contains (list_of new lits.0) number) → (a b : ℤ) → p ≡ Some (a, b) → Contains (list_of new a) number
     first_of p has a b is = subst (λ (q : Option (ℤ × ℤ)). IfSome q (λ lits. Contains (list_of new lits.0) number)) is has
@@ -161,9 +159,6 @@ module _ (pairs : List (Option (ℤ × ℤ))) (lists mid new : List (List ℕ)) 
     | inr more ↦ absurd (elim watched [ inl is ↦ none_some (gone, other) (past more is) | inr is ↦ none_some (other, gone) (past more is) ])
   ]
     where
-      none_some : (p : ℤ × ℤ) → None ≡ Some p → ⊥
-      none_some p same = cc
-
       past : {p : ℤ × ℤ} → length pairs ≤ number - 1 → pair_of pairs number ≡ Some p → None ≡ Some p
       past more is = sym (get_or_past pairs (number - 1) None more) ∙ is
 

@@ -11,8 +11,8 @@ use Rattle.refutation_check.specs.Following.{IsNumber, numbered}
 use Rattle.search_trail.specs.Trails.{Search, IsOnce, IsReason, lit_at, with_implied}
 use Rattle.search_trail.proofs.Members.{lit_before}
 use Rattle.clause_watches.specs.Listing.{Listed, AreListed, pair_of, list_of, IsOther}
-use Rattle.clause_watches.specs.Watching.{IsGuarded, IsKept, AreKept, HasGrown}
-use Rattle.clause_watches.specs.Visiting.{IsStill, IsFree, IsSole, IsVisit, watched_at}
+use Rattle.clause_watches.specs.Watching.{IsGuarded, IsWatched, AreWatched, HasGrown}
+use Rattle.clause_watches.specs.Visiting.{IsStill, IsReplacement, IsSole, IsVisit, watched_at}
 use Rattle.clause_watches.proofs.Fronts.{turned, guard_of, kept_of, kept_lower, kept_apart, kept_true, kept_moved, moved_apart, kept_implied, guard_implied}
 
 pub grown_same : (s : Search) → HasGrown s s
@@ -36,7 +36,7 @@ grown_twice a b c ab bc = record {
   more = omega (arith, ab.more, bc.more);
 }
 
-pub begins : (s : Search) (w : Listed) (head : ℕ) (gone : ℤ) (index : ℕ) → AreKept s (watched_at w head) → IsOnce s.lits → head < length s.lits → neg_ℤ gone ≡ lit_at s.lits head → AreListed w.pairs w.lists
+pub begins : (s : Search) (w : Listed) (head : ℕ) (gone : ℤ) (index : ℕ) → AreWatched s (watched_at w head) → IsOnce s.lits → head < length s.lits → neg_ℤ gone ≡ lit_at s.lits head → AreListed w.pairs w.lists
     → index ≡ length (list_of w.lists gone) → IsVisit s w head gone index
 begins s w head gone index k once inside here listed is = record {
   vars = k.vars;
@@ -51,19 +51,19 @@ begins s w head gone index k once inside here listed is = record {
   waits : (n : ℕ) → Contains (list_of w.lists gone) n → Contains (take index (list_of w.lists gone)) n
   waits n has = subst (λ xs. Contains xs n) (sym (take_all index (list_of w.lists gone) (omega (arith, is)))) has
 
-  by_pair : (n : ℕ) → IsNumber s.clauses n → (pair : Option (ℤ × ℤ)) → pair ≡ pair_of w.pairs n → IsKept s head (numbered s.clauses n) pair
-      → IsKept s (head + 1) (numbered s.clauses n) (pair_of w.pairs n) ⊎ Contains (take index (list_of w.lists gone)) n
-  by_pair n number None at kept = inl (subst (IsKept s (head + 1) (numbered s.clauses n)) at kept)
+  by_pair : (n : ℕ) → IsNumber s.clauses n → (pair : Option (ℤ × ℤ)) → pair ≡ pair_of w.pairs n → IsWatched s head (numbered s.clauses n) pair
+      → IsWatched s (head + 1) (numbered s.clauses n) (pair_of w.pairs n) ⊎ Contains (take index (list_of w.lists gone)) n
+  by_pair n number None at kept = inl (subst (IsWatched s (head + 1) (numbered s.clauses n)) at kept)
   by_pair n number (Some (a, b)) at kept = by_lit a gone
       (λ same. inr (waits n (subst (λ z. Contains (list_of w.lists z) n) same (listed.first n a b number.some (sym at)))))
       (λ a_other. by_lit b gone
       (λ same. inr (waits n (subst (λ z. Contains (list_of w.lists z) n) same (listed.second n a b number.some (sym at)))))
-      (λ b_other. inl (subst (IsKept s (head + 1) (numbered s.clauses n)) at (kept_apart s once head k.levels gone inside here (numbered s.clauses n) a b a_other b_other kept))))
+      (λ b_other. inl (subst (IsWatched s (head + 1) (numbered s.clauses n)) at (kept_apart s once head k.levels gone inside here (numbered s.clauses n) a b a_other b_other kept))))
 
-pub visit_kept : (s : Search) (w : Listed) (head : ℕ) (gone : ℤ) (index : ℕ) → IsVisit s w head gone index → AreKept s (watched_at w head)
+pub visit_kept : (s : Search) (w : Listed) (head : ℕ) (gone : ℤ) (index : ℕ) → IsVisit s w head gone index → AreWatched s (watched_at w head)
 visit_kept s w head gone index v = record { vars = v.vars; paired = v.paired; gone = omega (arith, v.inside); levels = v.levels; kept = v.kept }
 
-pub visit_ends : (s : Search) (w : Listed) (head : ℕ) (gone : ℤ) (index : ℕ) → index ≤ 0 → IsVisit s w head gone index → AreKept s (watched_at w (head + 1))
+pub visit_ends : (s : Search) (w : Listed) (head : ℕ) (gone : ℤ) (index : ℕ) → index ≤ 0 → IsVisit s w head gone index → AreWatched s (watched_at w (head + 1))
 visit_ends s w head gone index none v = record {
   vars = v.vars;
   paired = v.paired;
@@ -91,7 +91,7 @@ module _ (s : Search) (w : Listed) (head : ℕ) (gone : ℤ) (index number : ℕ
         | inr same ↦ here (sym same ∙ sym at)
       ]
 
-  pub still : (IsNumber s.clauses number → IsKept s (head + 1) (numbered s.clauses number) (pair_of w.pairs number)) → IsVisit s w head gone index
+  pub still : (IsNumber s.clauses number → IsWatched s (head + 1) (numbered s.clauses number) (pair_of w.pairs number)) → IsVisit s w head gone index
   still kept = record {
     vars = v.vars;
     paired = v.paired;
@@ -102,20 +102,20 @@ module _ (s : Search) (w : Listed) (head : ℕ) (gone : ℤ) (index number : ℕ
     next = λ n known. elim (v.next n known) [
       | inl old ↦ inl old
       | inr waits ↦ by_wait n waits
-          (λ same. inl (subst (λ m. IsKept s (head + 1) (numbered s.clauses m) (pair_of w.pairs m)) (sym same) (kept (subst (IsNumber s.clauses) same known))))
+          (λ same. inl (subst (λ m. IsWatched s (head + 1) (numbered s.clauses m) (pair_of w.pairs m)) (sym same) (kept (subst (IsNumber s.clauses) same known))))
           (λ before. inr before)
     ];
     bound = omega (arith, v.bound);
   }
 
   pub still_none : pair_of w.pairs number ≡ None → IsVisit s w head gone index
-  still_none none = still (λ known. subst (IsKept s (head + 1) (numbered s.clauses number)) (sym none) (subst (IsKept s head (numbered s.clauses number)) none (v.kept number known)))
+  still_none none = still (λ known. subst (IsWatched s (head + 1) (numbered s.clauses number)) (sym none) (subst (IsWatched s head (numbered s.clauses number)) none (v.kept number known)))
 
   module _ (once : IsOnce s.lits) where
     pub still_pair : (pair : ℤ × ℤ) → pair_of w.pairs number ≡ Some pair → IsStill s pair gone → IsVisit s w head gone index
-    still_pair (a, b) is stays = still (λ known. subst (IsKept s (head + 1) (numbered s.clauses number)) (sym is) (by_still known stays)) where
+    still_pair (a, b) is stays = still (λ known. subst (IsWatched s (head + 1) (numbered s.clauses number)) (sym is) (by_still known stays)) where
       guard : IsNumber s.clauses number → IsGuarded s head (numbered s.clauses number) a b
-      guard known = subst (IsKept s head (numbered s.clauses number)) is (v.kept number known)
+      guard known = subst (IsWatched s head (numbered s.clauses number)) is (v.kept number known)
 
       by_still : IsNumber s.clauses number → ((a ≢ gone) × (b ≢ gone)) ⊎ ((a ≡ gone) × (is_in s.lits b ≡ true)) ⊎ ((b ≡ gone) × (is_in s.lits a ≡ true)) → IsGuarded s (head + 1) (numbered s.clauses number) a b
       by_still known (inl apart) = kept_apart s once head v.levels gone v.inside v.here (numbered s.clauses number) a b apart.0 apart.1 (guard known)
@@ -129,10 +129,10 @@ module _ (s : Search) (w : Listed) (head : ℕ) (gone : ℤ) (index number : ℕ
       pub guard_here : IsGuarded s head (numbered s.clauses number) gone other
       guard_here = guard_of s head (numbered s.clauses number) (pair_of w.pairs number) gone other watched (v.kept number known)
 
-      pub moves_apart : (to : ℤ) → IsFree s (numbered s.clauses number) other to → to ≢ gone
+      pub moves_apart : (to : ℤ) → IsReplacement s (numbered s.clauses number) other to → to ≢ gone
       moves_apart to is = moved_apart s once head v.levels gone v.inside v.here to is.standing
 
-      pub moves : (to : ℤ) (after : Listed) → IsFree s (numbered s.clauses number) other to → after.vars ≡ w.vars → after.pairs ≡ set w.pairs (number - 1) (Some (to, other))
+      pub moves : (to : ℤ) (after : Listed) → IsReplacement s (numbered s.clauses number) other to → after.vars ≡ w.vars → after.pairs ≡ set w.pairs (number - 1) (Some (to, other))
           → take index (list_of after.lists gone) ≡ take index (list_of w.lists gone) → length (list_of after.lists gone) + 1 ≡ length (list_of w.lists gone) → IsVisit s after head gone index
       moves to after is vars pairs rest count = record {
         vars = vars ∙ v.vars;
@@ -140,13 +140,13 @@ module _ (s : Search) (w : Listed) (head : ℕ) (gone : ℤ) (index number : ℕ
         inside = v.inside;
         here = v.here;
         levels = v.levels;
-        kept = λ n n_known. by_number n n_known (λ pair. IsKept s head (numbered s.clauses n) pair)
+        kept = λ n n_known. by_number n n_known (λ pair. IsWatched s head (numbered s.clauses n) pair)
             (λ same. subst (λ m. IsGuarded s head (numbered s.clauses m) to other) (sym same) (kept_lower s head (head + 1) (numbered s.clauses number) (Some (to, other)) (omega arith) moved))
             (v.kept n n_known);
         next = λ n n_known. elim (cases_eq n number) [
-          | inl same ↦ inl (subst (λ m. IsKept s (head + 1) (numbered s.clauses m) (pair_of after.pairs m)) (sym same) (subst (IsKept s (head + 1) (numbered s.clauses number)) (sym new_pair) moved))
+          | inl same ↦ inl (subst (λ m. IsWatched s (head + 1) (numbered s.clauses m) (pair_of after.pairs m)) (sym same) (subst (IsWatched s (head + 1) (numbered s.clauses number)) (sym new_pair) moved))
           | inr unlike ↦ elim (v.next n n_known) [
-            | inl old ↦ inl (subst (IsKept s (head + 1) (numbered s.clauses n)) (sym (old_pair n n_known unlike)) old)
+            | inl old ↦ inl (subst (IsWatched s (head + 1) (numbered s.clauses n)) (sym (old_pair n n_known unlike)) old)
             | inr waits ↦ by_wait n waits (λ same. absurd (unlike same)) (λ before. inr (subst (λ xs. Contains xs n) (sym rest) before))
           ]
         ];
@@ -183,7 +183,7 @@ module _ (s : Search) (w : Listed) (head : ℕ) (gone : ℤ) (index number : ℕ
         next = λ n n_known. elim (v.next n n_known) [
           | inl old ↦ inl (kept_implied s once (head + 1) (λ j lt. omega (arith, v.levels j lt)) other number (numbered s.clauses n) (pair_of w.pairs n) (omega (arith, v.inside)) old)
           | inr waits ↦ by_wait n waits
-              (λ same. inl (subst (λ m. IsKept (with_implied s other number) (head + 1) (numbered s.clauses m) (pair_of w.pairs m)) (sym same)
+              (λ same. inl (subst (λ m. IsWatched (with_implied s other number) (head + 1) (numbered s.clauses m) (pair_of w.pairs m)) (sym same)
               (kept_of (with_implied s other number) (head + 1) (numbered s.clauses number) (pair_of w.pairs number) gone other watched
               (guard_implied s once head v.levels gone other number v.inside v.here (numbered s.clauses number) guard_here is.standing))))
               (λ before. inr before)

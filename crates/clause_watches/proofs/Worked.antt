@@ -2,12 +2,13 @@
 use Rattle.std.proofs.Common.{◌≡◌, inl, inr, ℕ, zero, suc, ℤ, pos, negsuc, neg_ℤ, true, false, Some, None, [], ◌∷◌, length, refl, ap, arith}
 use Rattle.clause_base.specs.Literals.{is_in}
 use Rattle.clause_base.proofs.LiteralLemmas.{no_both, differ}
-use Rattle.clause_base.proofs.Instances.{all, apart_by, not_true}
+use Rattle.clause_base.proofs.Instances.{all, not_true}
+use Rattle.clause_base.proofs.Worked.{no_tautology}
 use Rattle.refutation_check.specs.Following.{IsNumber, numbered}
 use Rattle.search_trail.specs.Trails.{Search, front, nothing_known, with_clause, with_implied}
 use Rattle.search_trail.proofs.Worked.{known, decided, failed}
 use Rattle.clause_watches.specs.Listing.{pair_of}
-use Rattle.clause_watches.specs.Watching.{Watched, IsBacked, IsGuarded, IsTautology, IsIdle, IsKept, AreKept, HasGrown, IsConflict, nothing_watched, with_pair, gone_back}
+use Rattle.clause_watches.specs.Watching.{Watched, IsBacked, IsGuarded, IsIdle, IsWatched, AreWatched, HasGrown, IsConflict, nothing_watched, with_pair, gone_back}
 
 -- The search knows (1 2) and (1 -2), each watched at both its literals.
 both_watched : Watched
@@ -57,12 +58,6 @@ one_literal_twice g = g.differ refl
 
 -- ---- clauses that need no watch
 
-tautology : IsTautology (pos 1 ∷ negsuc 0 ∷ [])
-tautology = record { lit = pos 1; there = (0, omega arith, refl); back = (1, omega arith, refl); differ = differ (pos 1) (negsuc 0) refl }
-
-no_tautology : IsTautology (pos 1 ∷ pos 2 ∷ []) → ⊥
-no_tautology t = (apart_by (pos 1 ∷ pos 2 ∷ []) refl).apart t.lit t.there t.back
-
 -- (1) makes 1 true on level 0
 settled : Search
 settled = with_implied (with_clause (nothing_known 2) (pos 1 ∷ [])) (pos 1) 1
@@ -77,16 +72,16 @@ unfolding known decided failed
 not_idle (inl t) = no_tautology t
 not_idle (inr some) = not_true (λ l. false) (pos 1 ∷ pos 2 ∷ []) refl some
 
-empty_is_not_kept : (s : Search) → IsKept s 0 [] None → ⊥
+empty_is_not_kept : (s : Search) → IsWatched s 0 [] None → ⊥
 empty_is_not_kept s (inl t) = let (k, lt, at) = t.there in omega (arith, lt)
 empty_is_not_kept s (inr some) = let (k, l, lt, at, is) = some in omega (arith, lt)
 
 -- ---- searches
 
-kept : AreKept known both_watched
+kept : AreWatched known both_watched
 unfolding known both_watched
 kept = record { vars = refl; paired = refl; gone = omega arith; levels = λ j jlt. absurd (omega (arith, jlt)); kept = each } where
-  each : (number : ℕ) → IsNumber known.clauses number → IsKept known 0 (numbered known.clauses number) (pair_of both_watched.pairs number)
+  each : (number : ℕ) → IsNumber known.clauses number → IsWatched known 0 (numbered known.clauses number) (pair_of both_watched.pairs number)
   each zero is = absurd (omega (arith, is.some))
   each (suc zero) is = guarded
   each (suc (suc zero)) is = record {
@@ -98,7 +93,7 @@ kept = record { vars = refl; paired = refl; gone = omega arith; levels = λ j jl
   }
   each (suc (suc (suc n))) is = absurd (omega (arith, is.most))
 
-one_unwatched : AreKept known (with_pair (nothing_watched 2) (Some (pos 1, pos 2))) → ⊥
+one_unwatched : AreWatched known (with_pair (nothing_watched 2) (Some (pos 1, pos 2))) → ⊥
 unfolding known
 one_unwatched k = omega (arith, k.paired)
 

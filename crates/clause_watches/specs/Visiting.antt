@@ -5,16 +5,16 @@ use Rattle.clause_base.specs.Teaching.{AllButNegated}
 use Rattle.refutation_check.specs.Following.{IsNumber, numbered}
 use Rattle.search_trail.specs.Trails.{Search, lit_at, start_at}
 use Rattle.clause_watches.specs.Listing.{Listed, pair_of, list_of, IsOther}
-use Rattle.clause_watches.specs.Watching.{Watched, IsKept}
-use Rattle.clause_watches.specs.declared.visit.Next.{Next}
-use Rattle.clause_watches.specs.declared.visit.Next.TheVariants.{Stays, Moves, Implies, Conflicts}
+use Rattle.clause_watches.specs.Watching.{Watched, IsWatched}
+use Rattle.clause_watches.specs.declared.visit.Action.{Action}
+use Rattle.clause_watches.specs.declared.visit.Action.TheVariants.{Stays, Moves, Implies, Conflicts}
 
 -- the watches stay: the clause isn't watched at this literal, or the other one is true
 abbrev pub IsStill : Search → ℤ × ℤ → ℤ → Type 0
 IsStill s pair gone = ((pair.0 ≢ gone) × (pair.1 ≢ gone)) ⊎ ((pair.0 ≡ gone) × (is_in s.lits pair.1 ≡ true)) ⊎ ((pair.1 ≡ gone) × (is_in s.lits pair.0 ≡ true))
 
 -- another literal of the clause that isn't false
-pub record IsFree (s : Search) (clause : List ℤ) (other to : ℤ) : Type 0 where
+pub record IsReplacement (s : Search) (clause : List ℤ) (other to : ℤ) : Type 0 where
   pub there : Contains clause to
   pub differ : to ≢ other
   pub standing : is_in s.lits (neg_ℤ to) ≡ false
@@ -26,11 +26,11 @@ pub record IsSole (s : Search) (clause : List ℤ) (other : ℤ) : Type 0 where
   pub standing : is_in s.lits (neg_ℤ other) ≡ false
 
 -- what to do with a clause, one of whose watched literals has become false
-abbrev pub IsNext : Search → List ℤ → ℤ × ℤ → ℤ → Next → Type 0
-IsNext s clause pair gone Stays = IsStill s pair gone
-IsNext s clause pair gone (Moves to other) = IsOther (Some pair) gone other × IsFree s clause other to
-IsNext s clause pair gone (Implies other) = IsOther (Some pair) gone other × IsSole s clause other
-IsNext s clause pair gone Conflicts = All (λ l. is_in s.lits (neg_ℤ l) ≡ true) clause
+abbrev pub IsAction : Search → List ℤ → ℤ × ℤ → ℤ → Action → Type 0
+IsAction s clause pair gone Stays = IsStill s pair gone
+IsAction s clause pair gone (Moves to other) = IsOther (Some pair) gone other × IsReplacement s clause other to
+IsAction s clause pair gone (Implies other) = IsOther (Some pair) gone other × IsSole s clause other
+IsAction s clause pair gone Conflicts = All (λ l. is_in s.lits (neg_ℤ l) ≡ true) clause
 
 -- The literal is the negation of the one at the head. Each clause is kept with that one gone through, or waits in the
 -- literal's list before this index.
@@ -40,8 +40,8 @@ pub record IsVisit (s : Search) (w : Listed) (head : ℕ) (gone : ℤ) (index : 
   pub inside : head < length s.lits
   pub here : neg_ℤ gone ≡ lit_at s.lits head
   pub levels : (j : ℕ) → j < length s.starts → start_at s.starts j ≤ head
-  pub kept : (number : ℕ) → IsNumber s.clauses number → IsKept s head (numbered s.clauses number) (pair_of w.pairs number)
-  pub next : (number : ℕ) → IsNumber s.clauses number → IsKept s (head + 1) (numbered s.clauses number) (pair_of w.pairs number) ⊎ Contains (take index (list_of w.lists gone)) number
+  pub kept : (number : ℕ) → IsNumber s.clauses number → IsWatched s head (numbered s.clauses number) (pair_of w.pairs number)
+  pub next : (number : ℕ) → IsNumber s.clauses number → IsWatched s (head + 1) (numbered s.clauses number) (pair_of w.pairs number) ⊎ Contains (take index (list_of w.lists gone)) number
   pub bound : index ≤ length (list_of w.lists gone)
 
 -- the watches with so many literals gone through

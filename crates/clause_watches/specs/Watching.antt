@@ -1,6 +1,7 @@
 -- What two watched literals of a clause keep.
 use Rattle.std.specs.Prelude.{◌≡◌, ◌≢◌, ◌⊎◌, ℕ, ◌<◌, ◌≤◌, ℤ, neg_ℤ, true, Option, Some, None, List, [], ◌∷◌, ◌++◌, length, take, min, Any, All, Contains}
 use Rattle.clause_base.specs.Literals.{is_in}
+use Rattle.clause_base.specs.Novelty.{IsTautology}
 use Rattle.refutation_check.specs.Following.{IsNumber, numbered}
 use Rattle.search_trail.specs.Trails.{Search, front, start_at}
 use Rattle.clause_watches.specs.Listing.{pair_of}
@@ -23,29 +24,22 @@ pub record IsGuarded (s : Search) (head : ℕ) (clause : List ℤ) (a b : ℤ) :
   pub first_backed : IsBacked s head a b
   pub second_backed : IsBacked s head b a
 
--- a literal stands beside its negation
-pub record IsTautology (clause : List ℤ) : Type 0 where
-  pub lit : ℤ
-  pub there : Contains clause lit
-  pub back : Contains clause (neg_ℤ lit)
-  pub differ : lit ≢ neg_ℤ lit
-
 -- a tautology, or a clause with a literal that is true on level 0
 abbrev pub IsIdle : Search → List ℤ → Type 0
 IsIdle s clause = IsTautology clause ⊎ Any (λ l. is_in (front s 0) l ≡ true) clause
 
 -- what is kept of a clause that is watched at these two literals, or not at all
-abbrev pub IsKept : Search → ℕ → List ℤ → Option (ℤ × ℤ) → Type 0
-IsKept s head clause None = IsIdle s clause
-IsKept s head clause (Some pair) = IsGuarded s head clause pair.0 pair.1
+abbrev pub IsWatched : Search → ℕ → List ℤ → Option (ℤ × ℤ) → Type 0
+IsWatched s head clause None = IsIdle s clause
+IsWatched s head clause (Some pair) = IsGuarded s head clause pair.0 pair.1
 
 -- what watches keep of a search: all was gone through when each level began, and each clause is guarded
-pub record AreKept (s : Search) (w : Watched) : Type 0 where
+pub record AreWatched (s : Search) (w : Watched) : Type 0 where
   pub vars : w.vars ≡ s.vars
   pub paired : length w.pairs ≡ length s.clauses
   pub gone : w.head ≤ length s.lits
   pub levels : (j : ℕ) → j < length s.starts → start_at s.starts j ≤ w.head
-  pub kept : (number : ℕ) → IsNumber s.clauses number → IsKept s w.head (numbered s.clauses number) (pair_of w.pairs number)
+  pub kept : (number : ℕ) → IsNumber s.clauses number → IsWatched s w.head (numbered s.clauses number) (pair_of w.pairs number)
 
 -- only literals joined the trail, on its current level
 pub record HasGrown (old new : Search) : Type 0 where

@@ -93,7 +93,7 @@ impl Lists {
     ) -> Result<(), AllocError>
         requires inside { index < length (list_of self.old.lists gone) }
         requires watched { IsOther (pair_of self.old.pairs (slice_index_or (list_of self.old.lists gone) index 0)) gone other }
-        requires over { nat_abs to ≤ self.old.vars }
+        requires within { nat_abs to ≤ self.old.vars }
         requires apart { to ≢ gone }
         requires differ { other ≢ gone }
         ensures vars { self.new.vars ≡ self.old.vars }

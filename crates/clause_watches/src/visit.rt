@@ -2,11 +2,11 @@
 
 ghost use Rattle.std.specs.Prelude.{◌≡◌, ◌≢◌, ◌<◌, ◌≤◌, ◌+◌, ◌⊎◌, ℕ, ℤ, Some, None, length, true, false, neg_ℤ, nat_abs, OnOk, IfOk, IfSome, IfNone, Contains, All};
 ghost use Rattle.clause_base.specs.Literals.{is_in};
-ghost use Rattle.clause_base.specs.Formulas.{IsOver};
+ghost use Rattle.clause_base.specs.Formulas.{IsClauseWithin};
 ghost use Rattle.clause_base.specs.Teaching.{AllButNegated};
 ghost use Rattle.clause_watches.specs.Listing.{pair_of, list_of};
-ghost use Rattle.clause_watches.specs.Watching.{AreKept, HasGrown, IsConflict};
-ghost use Rattle.clause_watches.specs.Visiting.{IsFree, IsNext, watched_at};
+ghost use Rattle.clause_watches.specs.Watching.{AreWatched, HasGrown, IsConflict};
+ghost use Rattle.clause_watches.specs.Visiting.{IsReplacement, IsAction, watched_at};
 
 use crate::lists::Lists;
 use clause_base::Lit;
@@ -15,7 +15,7 @@ use std::alloc::AllocError;
 
 /// What to do with a clause, one of whose watched literals has become false.
 #[derive(Clone, Copy, Debug, PartialEq, Eq)]
-pub(crate) enum Next {
+pub(crate) enum Action {
     /// Its watches stay.
     Stays,
     /// It is watched at the first literal in place of the one that is false, and at the second as before.
@@ -34,10 +34,10 @@ pub(crate) fn visit(
     head: usize,
 ) -> Result<Option<usize>, AllocError>
     requires inside { head < length trail.old.lits }
-    requires kept { AreKept trail.old (watched_at lists.old head) }
+    requires kept { AreWatched trail.old (watched_at lists.old head) }
     ensures grown { OnOk result (HasGrown trail.old trail.new) }
-    ensures kept { OnOk result (AreKept trail.new (watched_at lists.new head)) }
-    ensures passed { IfOk result (λ found. IfNone found (AreKept trail.new (watched_at lists.new (head + 1)))) }
+    ensures kept { OnOk result (AreWatched trail.new (watched_at lists.new head)) }
+    ensures passed { IfOk result (λ found. IfNone found (AreWatched trail.new (watched_at lists.new (head + 1)))) }
     ensures conflict { IfOk result (λ found. IfSome found (IsConflict trail.new)) }
 {
     let gone = trail.lits()[head].negated();
@@ -48,11 +48,11 @@ pub(crate) fn visit(
         let Some(pair) = lists.pair(number) else {
             continue;
         };
-        match next_of(trail, trail.clause(number), pair, gone) {
-            Next::Stays => {}
-            Next::Moves(to, other) => lists.shift(gone, index, to, other)?,
-            Next::Implies(other) => trail.imply(other, number)?,
-            Next::Conflicts => return Ok(Some(number)),
+        match action_of(trail, trail.clause(number), pair, gone) {
+            Action::Stays => {}
+            Action::Moves(to, other) => lists.shift(gone, index, to, other)?,
+            Action::Implies(other) => trail.imply(other, number)?,
+            Action::Conflicts => return Ok(Some(number)),
         }
     }
     Ok(None)
@@ -60,11 +60,11 @@ pub(crate) fn visit(
 
 /// Another literal of the clause that isn't false.
 fn find(trail: &Trail, clause: &[Lit], other: Lit) -> Option<Lit>
-    ensures some { IfSome result (λ to. IsFree trail.now clause.now other to) }
+    ensures some { IfSome result (λ to. IsReplacement trail.now clause.now other to) }
     ensures none { IfNone result (AllButNegated (is_in trail.now.lits) clause.now other) }
 {
     for lit in clause {
-        if is_free(trail, *lit, other) {
+        if is_replacement(trail, *lit, other) {
             return Some(*lit);
         }
     }
@@ -72,7 +72,7 @@ fn find(trail: &Trail, clause: &[Lit], other: Lit) -> Option<Lit>
 }
 
 /// Whether the literal isn't false, and not this one.
-fn is_free(trail: &Trail, lit: Lit, other: Lit) -> bool
+fn is_replacement(trail: &Trail, lit: Lit, other: Lit) -> bool
     ensures differ { result ≡ true → lit ≢ other }
     ensures standing { result ≡ true → is_in trail.now.lits (neg_ℤ lit) ≡ false }
     ensures no { result ≡ false → (lit ≡ other) ⊎ (is_in trail.now.lits (neg_ℤ lit) ≡ true) }
@@ -95,21 +95,21 @@ fn other_of(pair: (Lit, Lit), gone: Lit) -> Option<Lit>
 }
 
 /// What to do with a clause that is watched at these literals, where this one has become false.
-fn next_of(trail: &Trail, clause: &[Lit], pair: (Lit, Lit), gone: Lit) -> Next
-    ensures { IsNext trail.now clause.now pair gone result }
+fn action_of(trail: &Trail, clause: &[Lit], pair: (Lit, Lit), gone: Lit) -> Action
+    ensures { IsAction trail.now clause.now pair gone result }
 {
     let Some(other) = other_of(pair, gone) else {
-        return Next::Stays;
+        return Action::Stays;
     };
     if trail.is_true(other) {
-        return Next::Stays;
+        return Action::Stays;
     }
     if let Some(to) = find(trail, clause, other) {
-        return Next::Moves(to, other);
+        return Action::Moves(to, other);
     }
     if trail.is_true(other.negated()) {
-        Next::Conflicts
+        Action::Conflicts
     } else {
-        Next::Implies(other)
+        Action::Implies(other)
     }
 }

@@ -1,5 +1,7 @@
+//! The watches of a search, and unit propagation by them.
+
 ghost use Rattle.std.specs.Prelude.{◌≡◌, ◌≤◌, ◌+◌, length, nat_abs, OnOk, OnErr, IfOk, IfSome, IfNone};
-ghost use Rattle.clause_watches.specs.Watching.{AreKept, HasGrown, IsConflict, nothing_watched, with_pair, gone_back};
+ghost use Rattle.clause_watches.specs.Watching.{AreWatched, HasGrown, IsConflict, nothing_watched, with_pair, gone_back};
 
 use crate::lists::Lists;
 use crate::visit::visit;
@@ -9,7 +11,7 @@ use std::alloc::{AllocError, Global};
 use std::marker::Model;
 
 /// Where each clause of a search is watched. Contracts see for each clause the two literals, and how many literals of
-/// the trail were gone through. By the definition `AreKept` a watched literal whose negation was gone through is backed:
+/// the trail were gone through. By the definition `AreWatched` a watched literal whose negation was gone through is backed:
 /// the other one is true on the same level or below.
 #[derive(Debug, Drop)]
 pub struct Watches {
@@ -64,9 +66,9 @@ impl Watches {
     /// answer, or all was gone through. Then unit propagation adds nothing. It fails only where no memory is found; after
     /// that nothing is promised of the watches, and of the trail only what its type keeps.
     pub fn propagate(&mut self, trail: &mut Trail) -> Result<Option<usize>, AllocError>
-        requires { AreKept trail.old self.old }
+        requires { AreWatched trail.old self.old }
         ensures grown { OnOk result (HasGrown trail.old trail.new) }
-        ensures kept { OnOk result (AreKept trail.new self.new) }
+        ensures kept { OnOk result (AreWatched trail.new self.new) }
         ensures done { IfOk result (λ found. IfNone found (self.new.head ≡ length trail.new.lits)) }
         ensures conflict { IfOk result (λ found. IfSome found (IsConflict trail.new)) }
     {

@@ -14,6 +14,7 @@ use Rattle.clause_base.specs.Literals.{is_in}
 use Rattle.clause_base.specs.Novelty.{IsApart, HaveSame}
 use Rattle.clause_base.proofs.LiteralLemmas.{by_test, in_contains, contains_in}
 use Rattle.conflict_solver.specs.Deriving.{AllNew, IsPlain}
+use Rattle.conflict_solver.proofs.Derivations.{empty_plain}
 
 -- ---- a number for each clause
 
@@ -139,15 +140,6 @@ module _ (vars : ℕ) where
 
   -- ---- and none has the number of the empty clause
 
-  empty_plain : IsPlain vars []
-  empty_plain = record {
-    once = record { once = λ p q lt less same. let none : ⊥ = omega (arith, lt) in absurd none; apart = record { apart = λ l has back. empty_has l has } };
-    literals = All-nil (λ l. is_literal_of vars l ≡ true);
-  }
-    where
-      empty_has : (l : ℤ) → Contains [] l → ⊥
-      empty_has l has = omega (arith, has.1)
-
   not_empty : (clause : List ℤ) → clause ≢ [] → HaveSame [] clause → ⊥
   not_empty [] some same = some refl
   not_empty (l ∷ clause) some same = let has = same.back 0 l (omega arith) in omega (arith, has.1)
@@ -166,7 +158,7 @@ module _ (vars : ℕ) where
 
   all_distinct : (earlier : List (List ℤ)) (lines : List (List ℤ × List ℕ)) → AllNew earlier lines → All (λ line. line.0 ≢ []) lines → ArePlain lines → IsDistinct eqb (all_numbers lines)
   all_distinct earlier lines new some plain =
-      let others = differ_all [] lines empty_plain plain (λ k d lt. not_empty (get_or lines k d).0 (some k d lt)) in
+      let others = differ_all [] lines (empty_plain vars) plain (λ k d lt. not_empty (get_or lines k d).0 (some k d lt)) in
       IsDistinct-cons eqb (ternary vars []) (numbers lines) others (distinct earlier lines new plain)
 
   all_small : (lines : List (List ℤ × List ℕ)) → All (λ n. n < 3 ^ vars) (all_numbers lines)

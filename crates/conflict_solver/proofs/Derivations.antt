@@ -8,8 +8,9 @@ use Rattle.clause_base.specs.Teaching.{Teaches}
 use Rattle.refutation_check.specs.Following.{Follows, IsDerivation}
 use Rattle.proof_sinks.specs.declared.lines.Said.{Said}
 use Rattle.proof_sinks.specs.declared.lines.Said.TheVariants.{Derived}
+use Rattle.proof_sinks.specs.Lines.{given_lines, derived_lines, proof_of}
 use Rattle.search_trail.specs.Trails.{Search}
-use Rattle.conflict_solver.specs.Deriving.{line_clauses, filled_lines, AllTeach, IsPlain, given_lines, derived_lines, proof_of, IsProof}
+use Rattle.conflict_solver.specs.Deriving.{line_clauses, filled_lines, AllTeach, IsPlain, IsProof}
 use Rattle.conflict_solver.specs.Answering.{IsAnswered}
 use Rattle.conflict_solver.specs.declared.verdict.Verdict.TheVariants.{Refuted}
 use Rattle.conflict_solver.specs.Running.{IsUnderWay}
@@ -45,7 +46,7 @@ empty_more lines hints = ap (λ ls. filled_lines ls) (sym (take_all (length line
     (ap (λ (line : List ℤ × List ℕ). nat_lt 0 (length line.0)) (get_or_push lines ([], hints) ([], hints) (length lines) refl))
     ∙ ap (λ ls. filled_lines ls) (take-append-le (length lines) lines (([], hints) ∷ []) (omega arith) ∙ take_all (length lines) lines (omega arith))
 
-empty_plain : (vars : ℕ) → IsPlain vars []
+pub empty_plain : (vars : ℕ) → IsPlain vars []
 empty_plain vars = record {
   once = record { once = λ p q plt. let no' : ⊥ = omega (arith, plt) in absurd no'; apart = record { apart = λ l (j, jlt, at). omega (arith, jlt) } };
   literals = λ k d klt. let no' : ⊥ = omega (arith, klt) in absurd no';

@@ -6,7 +6,7 @@ use Rattle.std.proofs.lemmas.List.Elements.{Contains-get_or}
 use Rattle.std.proofs.lemmas.List.{take_all, take-take, take-append-le, length_push, length-take, get_or_default, get_or-take, get_or_past, get_or_push, get_or_append_left}
 use Rattle.std.proofs.lemmas.Int.{ints}
 use Rattle.clause_base.specs.Literals.{is_in}
-use Rattle.clause_base.specs.Formulas.{IsOver}
+use Rattle.clause_base.specs.Formulas.{IsClauseWithin}
 use Rattle.clause_base.specs.Teaching.{AllButNegated}
 use Rattle.clause_base.proofs.LiteralLemmas.{no_both, in_contains}
 use Rattle.refutation_check.specs.Following.{IsNumber, numbered}
@@ -16,7 +16,7 @@ use Rattle.search_trail.proofs.Members.{in_from, in_taken, in_pushed, by_push, l
 use Rattle.search_trail.proofs.Growing.{size_inside, levels_back}
 use Rattle.search_trail.proofs.Jumps.{unset_negated}
 use Rattle.clause_watches.specs.Listing.{pair_of}
-use Rattle.clause_watches.specs.Watching.{Watched, IsBacked, IsGuarded, IsIdle, IsKept, AreKept, IsConflict, with_pair}
+use Rattle.clause_watches.specs.Watching.{Watched, IsBacked, IsGuarded, IsIdle, IsWatched, AreWatched, IsConflict, with_pair}
 use Rattle.clause_watches.proofs.Kept.{clause_kept, implied_kept}
 use Rattle.conflict_solver.specs.Joining.{ListsOnly, HasJoined, HasGiven, pair_at}
 
@@ -60,7 +60,7 @@ module _ (s : Search) (clause : List ℤ) where
       failed = record { known = last_number; failed = subst (All (λ l. is_in s.lits (neg_ℤ l) ≡ true)) (sym last_is) failed };
     }
 
-    watched_at : (pair : Option (ℤ × ℤ)) → AreKept s w → IsKept s w.head clause pair → HasGiven s (with_clause s clause) (with_pair w pair) clause None
+    watched_at : (pair : Option (ℤ × ℤ)) → AreWatched s w → IsWatched s w.head clause pair → HasGiven s (with_clause s clause) (with_pair w pair) clause None
     watched_at pair kept is = record {
       joined = joined;
       ground = ground;
@@ -97,13 +97,13 @@ pub given_false : (s t : Search) (w : Watched) (clause : List ℤ) (n : ℕ) →
 given_false s t w clause n is ground head last failed = subst (λ t. HasGiven s t w clause (Some n)) (sym is)
     (subst (λ n. HasGiven s (with_clause s clause) w clause (Some n)) (sym (last ∙ ap (λ t. length t.clauses) is)) (found_here s clause ground w head failed))
 
-pub given_true : (s t : Search) (w x : Watched) (clause : List ℤ) (lit : ℤ) → t ≡ with_clause s clause → x ≡ with_pair w None → s.starts ≡ [] → w.head ≡ 0 → AreKept s w
+pub given_true : (s t : Search) (w x : Watched) (clause : List ℤ) (lit : ℤ) → t ≡ with_clause s clause → x ≡ with_pair w None → s.starts ≡ [] → w.head ≡ 0 → AreWatched s w
     → Contains clause lit → is_in s.lits lit ≡ true → HasGiven s t x clause None
 given_true s t w x clause lit is watched ground head kept there true_ = subst (λ t. HasGiven s t x clause None) (sym is) (subst (λ x. HasGiven s (with_clause s clause) x clause None) (sym watched)
     (watched_at s clause ground w head None kept (idle s clause lit (ground_front s ground) there true_)))
 
 -- a literal joins the trail before one is gone through
-ground_implied : (s : Search) (w : Watched) (lit : ℤ) (n : ℕ) → s.starts ≡ [] → w.head ≡ 0 → AreKept s w → AreKept (with_implied s lit n) w
+ground_implied : (s : Search) (w : Watched) (lit : ℤ) (n : ℕ) → s.starts ≡ [] → w.head ≡ 0 → AreWatched s w → AreWatched (with_implied s lit n) w
 ground_implied s w lit n ground head k = record {
   vars = k.vars;
   paired = k.paired;
@@ -114,13 +114,13 @@ ground_implied s w lit n ground head k = record {
   s' : Search
   s' = with_implied s lit n
 
-  more : (clause : List ℤ) (pair : Option (ℤ × ℤ)) → IsKept s w.head clause pair → IsKept s' w.head clause pair
+  more : (clause : List ℤ) (pair : Option (ℤ × ℤ)) → IsWatched s w.head clause pair → IsWatched s' w.head clause pair
   more clause None (inl twice) = inl twice
   more clause None (inr (j, m, jlt, at, is)) = inr (j, m, jlt, at, subst (λ ls. is_in ls m ≡ true) (sym (ground_front s' ground)) (in_pushed s.lits lit m (subst (λ ls. is_in ls m ≡ true) (ground_front s ground) is)))
   more clause (Some (a, b)) g = record { first = g.first; second = g.second; differ = g.differ; first_backed = ungone s' w a b head; second_backed = ungone s' w b a head }
 
 pub given_implied : (s t u : Search) (w x : Watched) (clause : List ℤ) (lit : ℤ) (n : ℕ) → t ≡ with_clause s clause → u ≡ with_implied t lit n → x ≡ with_pair w None
-    → s.starts ≡ [] → w.head ≡ 0 → AreKept s w → Contains clause lit → HasGiven s u x clause None
+    → s.starts ≡ [] → w.head ≡ 0 → AreWatched s w → Contains clause lit → HasGiven s u x clause None
 given_implied s t u w x clause lit n is implied watched ground head kept there =
     subst (λ u. HasGiven s u x clause None) (sym (implied ∙ ap (λ t. with_implied t lit n) is)) (subst (λ x. HasGiven s (with_implied (with_clause s clause) lit n) x clause None) (sym watched) record {
       joined = record { vars = refl; clauses = refl };
@@ -133,7 +133,7 @@ given_implied s t u w x clause lit n is implied watched ground head kept there =
     s' : Search
     s' = with_implied s lit n
 
-pub given_pair : (s t : Search) (w x : Watched) (clause : List ℤ) (a b : ℤ) → t ≡ with_clause s clause → x ≡ with_pair w (Some (a, b)) → s.starts ≡ [] → w.head ≡ 0 → AreKept s w
+pub given_pair : (s t : Search) (w x : Watched) (clause : List ℤ) (a b : ℤ) → t ≡ with_clause s clause → x ≡ with_pair w (Some (a, b)) → s.starts ≡ [] → w.head ≡ 0 → AreWatched s w
     → Contains clause a → Contains clause b → a ≢ b → HasGiven s t x clause None
 given_pair s t w x clause a b is watched ground head kept first second differ = subst (λ t. HasGiven s t x clause None) (sym is) (subst (λ x. HasGiven s (with_clause s clause) x clause None) (sym watched)
     (watched_at s clause ground w head (Some (a, b)) kept record { first = first; second = second; differ = differ; first_backed = ungone s w a b head; second_backed = ungone s w b a head }))
@@ -165,7 +165,7 @@ module _ (s : Search) (clause : List ℤ) (level : ℕ) (t : IsSearch s) (l : Is
   abbrev s' : Search
   s' = with_implied (back_at s level) lit (length s.clauses + 1)
 
-  pub small : IsOver s.vars clause
+  pub small : IsClauseWithin s.vars clause
   small k d klt = let (p, plt, at) = in_contains s.lits (neg_ℤ (get_or clause k d)) (l.negated k d klt) in
       omega (arith, ints, t.small p (neg_ℤ (get_or clause k d)) plt, ap (λ z. nat_abs z) at)
 
@@ -221,7 +221,7 @@ module _ (s : Search) (clause : List ℤ) (level : ℕ) (t : IsSearch s) (l : Is
     | inr none ↦ omega (arith, none)
   ]
 
-  pair_kept : (head : ℕ) (c : List ℤ) → c ≡ clause → IsKept s' head clause (pair_at c)
+  pair_kept : (head : ℕ) (c : List ℤ) → c ≡ clause → IsWatched s' head clause (pair_at c)
   pair_kept head [] is = let no' : ⊥ = omega (arith, a.some, ap (λ c. length c) is) in absurd no'
   pair_kept head (x ∷ []) is = idle s' clause lit all (Contains-get_or clause 0 (pos 0) a.some) (own (front s level) lit) where
     all : front s' 0 ≡ front s level ++ lit ∷ []
@@ -232,9 +232,9 @@ module _ (s : Search) (clause : List ℤ) (level : ℕ) (t : IsSearch s) (l : Is
   search_back : IsSearch (back_at s level)
   search_back = levels_back s.vars s.clauses s.lits s.reasons s.starts t level (front_size s level) refl
 
-  pub learnt_kept : (d : Search) (w x : Watched) → AreKept (back_at s level) w → d ≡ with_implied (with_clause (back_at s level) clause) lit (length s.clauses + 1) → x ≡ with_pair w (pair_at clause)
-      → AreKept d x
-  learnt_kept d w x kept is watched = subst (λ d. AreKept d x) (sym is) (subst (AreKept (with_clause s' clause)) (sym watched)
+  pub learnt_kept : (d : Search) (w x : Watched) → AreWatched (back_at s level) w → d ≡ with_implied (with_clause (back_at s level) clause) lit (length s.clauses + 1) → x ≡ with_pair w (pair_at clause)
+      → AreWatched d x
+  learnt_kept d w x kept is watched = subst (λ d. AreWatched d x) (sym is) (subst (AreWatched (with_clause s' clause)) (sym watched)
       (clause_kept s' w clause (pair_at clause) (implied_kept (back_at s level) w lit (length s.clauses + 1) search_back kept) (pair_kept w.head clause refl)))
 
 pub learnt_joined : (s b d : Search) (clause : List ℤ) (lit : ℤ) (level n : ℕ) → b ≡ back_at s level → d ≡ with_implied (with_clause b clause) lit n → HasJoined s d clause

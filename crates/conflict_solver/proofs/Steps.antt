@@ -1,5 +1,5 @@
 -- The steps of a search under way.
-use Rattle.std.proofs.Common.{◌≡◌, ◌≢◌, ℕ, zero, suc, ◌+◌, ◌-◌, ◌^◌, ◌<◌, ◌≤◌, ◌⊎◌, inl, inr, ℤ, pos, negsuc, neg_ℤ, nat_abs, true, Option, Some, None, IfSome, IfNone, Result, Ok, Err, OnErr, OnOk, IfOk, List, [], ◌∷◌, ◌++◌, length, take, get_or, refl, sym, ap, ◌∙◌, subst, arith}
+use Rattle.std.proofs.Common.{◌≡◌, ◌≢◌, ℕ, zero, suc, ◌+◌, ◌-◌, ◌^◌, ◌<◌, ◌≤◌, ◌⊎◌, inl, inr, ℤ, pos, negsuc, neg_ℤ, nat_abs, true, Option, Some, None, IfSome, IfNone, Result, Ok, Err, OnOk, IfOk, List, [], ◌∷◌, ◌++◌, length, take, get_or, refl, sym, ap, ◌∙◌, subst, arith}
 use Rattle.std.specs.List.{Any}
 use Rattle.std.proofs.lemmas.Bool.Decides.{nat_tests}
 use Rattle.std.proofs.lemmas.Int.{ints}
@@ -13,11 +13,12 @@ use Rattle.clause_base.proofs.LiteralLemmas.{in_contains}
 use Rattle.refutation_check.specs.Following.{Follows, numbered}
 use Rattle.proof_sinks.specs.declared.lines.Said.{Said}
 use Rattle.proof_sinks.specs.declared.lines.Said.TheVariants.{Axiom, Derived}
+use Rattle.proof_sinks.specs.Lines.{given_lines, derived_lines}
 use Rattle.search_trail.specs.Trails.{Search, IsSearch, front_size, with_clause, with_decision}
 use Rattle.search_trail.specs.Learning.{IsLearnt, IsAsserting, IsDoneBelow}
-use Rattle.clause_watches.specs.Watching.{Watched, AreKept, HasGrown}
+use Rattle.clause_watches.specs.Watching.{Watched, AreWatched, HasGrown}
 use Rattle.clause_watches.proofs.Kept.{closed, decision_kept}
-use Rattle.conflict_solver.specs.Deriving.{IsPlain, AreDerived, IsProof, IsProofSoFar, AreGiven, given_lines, derived_lines}
+use Rattle.conflict_solver.specs.Deriving.{IsPlain, AreDerived, IsProof, IsProofSoFar, AreGiven}
 use Rattle.conflict_solver.specs.Answering.{AreExhausted, IsAnswered}
 use Rattle.conflict_solver.specs.declared.verdict.Verdict.{Verdict}
 use Rattle.conflict_solver.specs.declared.verdict.Verdict.TheVariants.{Values, Refuted, Undecided}
@@ -35,10 +36,10 @@ true_more s place clause lt is any before = All-more (λ c. Any (λ l. is_in s.l
   same : place + 1 - 1 ≡ place
   same = omega arith
 
-pub start_low : (s : Search) (w : Watched) → AreKept s w → 0 < length s.starts → front_size s (length s.starts - 1) ≤ w.head
+pub start_low : (s : Search) (w : Watched) → AreWatched s w → 0 < length s.starts → front_size s (length s.starts - 1) ≤ w.head
 start_low s w k above = omega (arith, k.levels (length s.starts - 1) (omega (arith, above)), get_or_default s.starts (length s.starts - 1) (length s.lits) 0 (omega (arith, above)))
 
-pub done_below : (s : Search) (w : Watched) → IsSearch s → AreKept s w → 0 < length s.starts → IsDoneBelow s
+pub done_below : (s : Search) (w : Watched) → IsSearch s → AreWatched s w → 0 < length s.starts → IsDoneBelow s
 done_below s w t k above = closed s w (length s.starts - 1) t k (start_low s w k above)
 
 -- ---- a line that a conflict teaches
@@ -53,17 +54,17 @@ literal_of vars l some most = grind (arith, nat_tests, by_size l some most) wher
 plain : (s : Search) (clause : List ℤ) → IsSearch s → IsLearnt s clause → IsPlain s.vars clause
 plain s clause t l = record {
   once = l.once;
-  literals = λ k d klt. literal_of s.vars (get_or clause k d) (some (get_or clause k d) (l.negated k d klt)) (over (get_or clause k d) (l.negated k d klt));
+  literals = λ k d klt. literal_of s.vars (get_or clause k d) (some (get_or clause k d) (l.negated k d klt)) (within (get_or clause k d) (l.negated k d klt));
 } where
   some : (z : ℤ) → is_in s.lits (neg_ℤ z) ≡ true → z ≡ pos 0 → ⊥
   some z is zero_is = let zero_in : is_in s.lits (pos 0) ≡ true = subst (λ z. is_in s.lits (neg_ℤ z) ≡ true) zero_is is in
       t.once.apart.apart (pos 0) (in_contains s.lits (pos 0) zero_in) (in_contains s.lits (pos 0) zero_in)
 
-  over : (z : ℤ) → is_in s.lits (neg_ℤ z) ≡ true → nat_abs z ≤ s.vars
-  over z is = let (p, plt, at) = in_contains s.lits (neg_ℤ z) is in omega (arith, ints, t.small p (neg_ℤ z) plt, ap (λ z. nat_abs z) at)
+  within : (z : ℤ) → is_in s.lits (neg_ℤ z) ≡ true → nat_abs z ≤ s.vars
+  within z is = let (p, plt, at) = in_contains s.lits (neg_ℤ z) is in omega (arith, ints, t.small p (neg_ℤ z) plt, ap (λ z. nat_abs z) at)
 
 module _ (formula : Clauses) (budget left : ℕ) (said new : List Said) (s : Search) (w : Watched) (items clause : List ℤ) (hint_items hints : List ℕ)
-    (t : IsSearch s) (k : AreKept s w) (above : 0 < length s.starts) (some : 0 < left) (lits_are : clause ≡ items) (hints_are : hints ≡ hint_items)
+    (t : IsSearch s) (k : AreWatched s w) (above : 0 < length s.starts) (some : 0 < left) (lits_are : clause ≡ items) (hints_are : hints ≡ hint_items)
     (follows : Follows s.clauses items hint_items) (l : IsLearnt s items) (asserting : IsDoneBelow s → IsAsserting s items) (teaches : IsDoneBelow s → Teaches s.clauses items)
     (run : IsUnderWay formula budget left said s) where
   filled : items ≢ []
@@ -94,12 +95,12 @@ module _ (formula : Clauses) (budget left : ℕ) (said new : List Said) (s : Sea
 
 -- ---- a decision
 
-pub decided_kept : (s u : Search) (w x : Watched) (found : Option Verdict) → IsSearch s → AreKept s w → w.head ≡ length s.lits → x ≡ w → IfNone found (HasDecided s u) → IfNone found (AreKept u x)
-decided_kept s u w x None t k done same d = subst (λ u. AreKept u x) (sym d.begun) (subst (λ x. AreKept (with_decision s d.lit) x) (sym same) (decision_kept s w d.lit t k done))
+pub decided_kept : (s u : Search) (w x : Watched) (found : Option Verdict) → IsSearch s → AreWatched s w → w.head ≡ length s.lits → x ≡ w → IfNone found (HasDecided s u) → IfNone found (AreWatched u x)
+decided_kept s u w x None t k done same d = subst (λ u. AreWatched u x) (sym d.begun) (subst (λ x. AreWatched (with_decision s d.lit) x) (sym same) (decision_kept s w d.lit t k done))
 decided_kept s u w x (Some verdict) t k done same d = tt
 
 pub settled_found : (formula : Clauses) (budget left : ℕ) (said : List Said) (old s : Search) (w : Watched) (found : Option Verdict) → IsUnderWay formula budget left said old → s.vars ≡ old.vars → s.clauses ≡ old.clauses
-    → IsSearch s → AreKept s w → w.head ≡ length s.lits → IfSome found (IsSettled s left) → IfSome found (IsAnswered formula budget said)
+    → IsSearch s → AreWatched s w → w.head ≡ length s.lits → IfSome found (IsSettled s left) → IfSome found (IsAnswered formula budget said)
 settled_found formula budget left said old s w None run vars clauses t k done is = tt
 settled_found formula budget left said old s w (Some verdict) run vars clauses t k done is = settled formula budget left said old s w verdict run vars clauses t k done is
 
@@ -107,12 +108,8 @@ pub done_when_none : {A P : Type 0} (found : Option A) → found ≡ None → If
 done_when_none {A} {P} found none is = subst (λ f. IfNone f P) none is
 
 -- below a conflict unit propagation meets none
-pub grown_open : (old s : Search) (w : Watched) → HasGrown old s → IsSearch s → AreKept s w → 0 < length s.starts → IsOpen old.clauses
+pub grown_open : (old s : Search) (w : Watched) → HasGrown old s → IsSearch s → AreWatched s w → 0 < length s.starts → IsOpen old.clauses
 grown_open old s w grown t k above = subst IsOpen grown.clauses (open_below s w t k (length s.starts - 1) (omega (arith, above)))
-
-pub on_err : {T E P : Type 0} (r : Result T E) → P → OnErr r P
-on_err (Ok x) p = tt
-on_err (Err e) p = p
 
 -- ---- clauses that are given
 

@@ -11,7 +11,7 @@ use Rattle.refutation_check.specs.Following.{IsNumber, numbered}
 use Rattle.proof_sinks.specs.declared.lines.Said.{Said}
 use Rattle.search_trail.specs.Trails.{Search, IsSearch, front, front_size}
 use Rattle.search_trail.proofs.Teaches.{front_consistent}
-use Rattle.clause_watches.specs.Watching.{Watched, AreKept}
+use Rattle.clause_watches.specs.Watching.{Watched, AreWatched}
 use Rattle.clause_watches.proofs.Fronts.{top_front}
 use Rattle.clause_watches.proofs.Kept.{closed}
 use Rattle.conflict_solver.specs.Deriving.{line_clauses}
@@ -22,7 +22,7 @@ use Rattle.conflict_solver.specs.Setting.{AreTrue, AreValues, IsSettled}
 use Rattle.conflict_solver.specs.Running.{IsUnderWay}
 use Rattle.conflict_solver.proofs.News.{all_new}
 
-module _ (s : Search) (w : Watched) (t : IsSearch s) (k : AreKept s w) where
+module _ (s : Search) (w : Watched) (t : IsSearch s) (k : AreWatched s w) where
   -- a level that was gone through is open
   open_at : (level : ℕ) → front_size s level ≤ w.head → IsOpen s.clauses
   open_at level low = record { set = is_in (front s level); consistent = front_consistent s t (front_size s level); closed = closed s w level t k low }
@@ -42,8 +42,8 @@ module _ (s : Search) (w : Watched) (t : IsSearch s) (k : AreKept s w) where
         (subst (λ ls. All (λ l. is_in ls (neg_ℤ l) ≡ true) (numbered s.clauses number)) (sym (top_front s)) failed)
 
 module _ (s : Search) (t : IsSearch s) (values : List Bool) (v : AreValues s s.vars values) where
-  over : (l : ℤ) → is_in s.lits l ≡ true → nat_abs l ≤ s.vars
-  over l is = let (p, plt, at) = in_contains s.lits l is in subst (λ z. nat_abs z ≤ s.vars) at (t.small p l plt)
+  within : (l : ℤ) → is_in s.lits l ≡ true → nat_abs l ≤ s.vars
+  within l is = let (p, plt, at) = in_contains s.lits l is in subst (λ z. nat_abs z ≤ s.vars) at (t.small p l plt)
 
   apart : (l : ℤ) → is_in s.lits l ≡ true → is_in s.lits (neg_ℤ l) ≡ true → ⊥
   apart l is back = t.once.apart.apart l (in_contains s.lits l is) (in_contains s.lits (neg_ℤ l) back)
@@ -53,8 +53,8 @@ module _ (s : Search) (t : IsSearch s) (values : List Bool) (v : AreValues s s.v
 
   true_value : (l : ℤ) → is_in s.lits l ≡ true → is_true_under values l ≡ true
   true_value (pos zero) is = absurd (apart (pos 0) is is)
-  true_value (pos (suc n)) is = value_of n false (omega (arith, over (pos (suc n)) is)) ∙ is
-  true_value (negsuc n) is = ap not (value_of n true (omega (arith, over (negsuc n) is)) ∙ by_test (is_in s.lits (pos (suc n))) (λ yes'. absurd (apart (pos (suc n)) yes' is)) (λ none. none))
+  true_value (pos (suc n)) is = value_of n false (omega (arith, within (pos (suc n)) is)) ∙ is
+  true_value (negsuc n) is = ap not (value_of n true (omega (arith, within (negsuc n) is)) ∙ by_test (is_in s.lits (pos (suc n))) (λ yes'. absurd (apart (pos (suc n)) yes' is)) (λ none. none))
 
   true_clause : (clause : List ℤ) → Any (λ l. is_in s.lits l ≡ true) clause → IsTrueUnder (is_true_under values) clause
   true_clause clause (j, m, jlt, at, is) = (j, m, jlt, at, true_value m is)
@@ -80,7 +80,7 @@ exhausted formula budget left said s run none open' = record {
 }
 
 pub settled : (formula : Clauses) (budget left : ℕ) (said : List Said) (old s : Search) (w : Watched) (verdict : Verdict) → IsUnderWay formula budget left said old → s.vars ≡ old.vars → s.clauses ≡ old.clauses
-    → IsSearch s → AreKept s w → w.head ≡ length s.lits → IsSettled s left verdict → IsAnswered formula budget said verdict
+    → IsSearch s → AreWatched s w → w.head ≡ length s.lits → IsSettled s left verdict → IsAnswered formula budget said verdict
 settled formula budget left said old s w (Values values) run vars clauses t k done (all, v) = record {
   lines = run.lines;
   whole = run.whole;

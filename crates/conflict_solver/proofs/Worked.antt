@@ -14,7 +14,8 @@ use Rattle.clause_base.proofs.Instances.{all, apart_by, propagated_by_one, propa
 use Rattle.clause_base.proofs.Worked.{square, one_teaches, square_and_one, turned}
 use Rattle.refutation_check.proofs.Worked.{refutation, derivation}
 use Rattle.proof_sinks.specs.declared.lines.Said.TheVariants.{Axiom, Derived}
-use Rattle.conflict_solver.specs.Deriving.{line_clauses, filled_lines, AllTeach, AllNew, IsPlain, AreDerived, proof_of, AreGiven}
+use Rattle.proof_sinks.specs.Lines.{proof_of}
+use Rattle.conflict_solver.specs.Deriving.{line_clauses, filled_lines, AllTeach, AllNew, IsPlain, AreDerived, AreGiven}
 use Rattle.conflict_solver.specs.Answering.{AreSolution, EndsEmpty, AreExhausted}
 
 -- the formula of two variables that has no solution

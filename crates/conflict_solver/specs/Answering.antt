@@ -4,7 +4,8 @@ use Rattle.clause_base.specs.Formulas.{Clauses}
 use Rattle.clause_base.specs.Solving.{is_true_under, Solves}
 use Rattle.clause_base.specs.Teaching.{IsOpen}
 use Rattle.proof_sinks.specs.declared.lines.Said.{Said}
-use Rattle.conflict_solver.specs.Deriving.{AreDerived, AllNew, line_clauses, proof_of}
+use Rattle.proof_sinks.specs.Lines.{proof_of}
+use Rattle.conflict_solver.specs.Deriving.{AreDerived, AllNew, line_clauses}
 use Rattle.conflict_solver.specs.declared.verdict.Verdict.{Verdict}
 use Rattle.conflict_solver.specs.declared.verdict.Verdict.TheVariants.{Values, Refuted, Undecided}
 

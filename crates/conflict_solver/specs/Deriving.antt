@@ -8,7 +8,7 @@ use Rattle.clause_base.specs.Teaching.{Teaches}
 use Rattle.refutation_check.specs.Following.{IsDerivation}
 use Rattle.search_trail.specs.Trails.{IsOnce}
 use Rattle.proof_sinks.specs.declared.lines.Said.{Said}
-use Rattle.proof_sinks.specs.declared.lines.Said.TheVariants.{Axiom, Derived}
+use Rattle.proof_sinks.specs.Lines.{given_lines, proof_of}
 
 -- the clauses of the lines, in their order
 abbrev pub line_clauses : List (List ℤ × List ℕ) → List (List ℤ)
@@ -40,18 +40,6 @@ pub record AreDerived (formula : Clauses) (budget : ℕ) (lines : List (List ℤ
   pub teach : AllTeach formula.clauses lines
   pub plain : All (λ line. IsPlain formula.vars line.0) lines
   pub few : filled_lines lines ≤ budget
-
--- the lines of a proof that give these clauses
-abbrev pub given_lines : List (List ℤ) → List Said
-given_lines clauses = map (λ clause. Axiom clause) clauses
-
--- the lines of a proof that derive these
-abbrev pub derived_lines : List (List ℤ × List ℕ) → List Said
-derived_lines lines = map (λ line. Derived line.0 line.1) lines
-
--- the proof that gives the formula's clauses and then derives these lines
-abbrev pub proof_of : Clauses → List (List ℤ × List ℕ) → List Said
-proof_of formula lines = given_lines formula.clauses ++ derived_lines lines
 
 -- the first clauses of the formula were given
 pub record AreGiven (formula : Clauses) (said : List Said) : Type 0 where

@@ -4,11 +4,12 @@ use Rattle.probe_io.specs.Causes.{Rose}
 use Rattle.clause_base.specs.Formulas.{Clauses}
 use Rattle.proof_sinks.specs.Calls.{KeepsTold}
 use Rattle.proof_sinks.specs.declared.lines.Said.{Said}
+use Rattle.proof_sinks.specs.Lines.{given_lines, proof_of}
 use Rattle.search_trail.specs.Trails.{Search}
-use Rattle.clause_watches.specs.Watching.{Watched, AreKept, IsConflict}
+use Rattle.clause_watches.specs.Watching.{Watched, AreWatched, IsConflict}
 use Rattle.conflict_solver.specs.declared.verdict.SolveFault.{SolveFault}
 use Rattle.conflict_solver.specs.declared.verdict.SolveFault.TheVariants.{Sink}
-use Rattle.conflict_solver.specs.Deriving.{AreDerived, given_lines, line_clauses, proof_of}
+use Rattle.conflict_solver.specs.Deriving.{AreDerived, line_clauses}
 
 -- What a call keeps of its sink: its count of faults never falls, and rose where the answer is its fault.
 pub record KeepsSink {T : Type 0} (old_faults new_faults : ℕ) (old_before new_before : Option (List ℕ)) (result : Result T SolveFault) : Type 0 where
@@ -23,7 +24,7 @@ pub record IsGiving (formula : Clauses) (count : ℕ) (said : List Said) (s : Se
   pub vars : s.vars ≡ formula.vars
   pub ground : s.starts ≡ []
   pub head : w.head ≡ 0
-  pub kept : IfNone conflict (AreKept s w)
+  pub kept : IfNone conflict (AreWatched s w)
   pub failed : IfSome conflict (IsConflict s)
 
 -- All clauses were given, and lines were derived, none of them empty; `left` more may be said.

@@ -7,7 +7,7 @@ use Rattle.conflict_solver.specs.declared.verdict.Verdict.TheVariants.{Values, R
 
 -- neither the literal nor its negation is true
 pub record IsUnset (s : Search) (lit : ℤ) : Type 0 where
-  pub over : nat_abs lit ≤ s.vars
+  pub within : nat_abs lit ≤ s.vars
   pub unset : is_in s.lits lit ≡ false
   pub unset_negated : is_in s.lits (neg_ℤ lit) ≡ false
 

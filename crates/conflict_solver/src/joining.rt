@@ -1,12 +1,12 @@
 //! Clauses that join a search: those that are given, and those that a conflict teaches.
 
 ghost use Rattle.std.specs.Prelude.{◌≡◌, ◌≢◌, ◌<◌, ◌+◌, [], ◌∷◌, ◌++◌, length, true, false, neg_ℤ, OnOk, IfOk, IfSome, IfNone, Contains};
-ghost use Rattle.clause_base.specs.Formulas.{IsOver};
+ghost use Rattle.clause_base.specs.Formulas.{IsClauseWithin};
 ghost use Rattle.clause_base.specs.Literals.{is_in};
 ghost use Rattle.search_trail.specs.Trails.{IsReason, lit_at, with_clause, with_implied};
 ghost use Rattle.search_trail.specs.Learning.{IsLearnt, IsAsserting, IsJump};
-ghost use Rattle.clause_watches.specs.Watching.{AreKept, IsConflict, with_pair};
-ghost use Rattle.conflict_solver.specs.Joining.{ListsOnly, AreEnds, HasJoined, HasGiven, pair_at};
+ghost use Rattle.clause_watches.specs.Watching.{AreWatched, IsConflict, with_pair};
+ghost use Rattle.conflict_solver.specs.Joining.{ListsOnly, AreFirsts, HasJoined, HasGiven, pair_at};
 
 use crate::levels::back_to;
 use clause_base::Lit;
@@ -16,7 +16,7 @@ use std::alloc::AllocError;
 
 /// The first literal of a clause, and the first that differs from it.
 #[derive(Clone, Copy, Debug, PartialEq, Eq)]
-pub(crate) enum Ends {
+pub(crate) enum Firsts {
     /// The clause is empty.
     Nothing,
     /// The clause lists this literal alone, perhaps more than once.
@@ -26,15 +26,15 @@ pub(crate) enum Ends {
 }
 
 /// The first two literals of the clause that differ.
-fn ends_of(clause: &[Lit]) -> Ends
-    ensures { AreEnds clause.now result }
+fn firsts_of(clause: &[Lit]) -> Firsts
+    ensures { AreFirsts clause.now result }
 {
     let Some(first) = clause.first().copied() else {
-        return Ends::Nothing;
+        return Firsts::Nothing;
     };
     match other_than(clause, first) {
-        Some(second) => Ends::Pair(first, second),
-        None => Ends::Sole(first),
+        Some(second) => Firsts::Pair(first, second),
+        None => Firsts::Sole(first),
     }
 }
 
@@ -68,10 +68,10 @@ pub(crate) fn give(
     clause: &[Lit],
     conflict: Option<usize>,
 ) -> Result<Option<usize>, AllocError>
-    requires over { IsOver trail.old.vars clause.now }
+    requires within { IsClauseWithin trail.old.vars clause.now }
     requires ground { trail.old.starts ≡ [] }
     requires head { watches.old.head ≡ 0 }
-    requires kept { IfNone conflict (AreKept trail.old watches.old) }
+    requires kept { IfNone conflict (AreWatched trail.old watches.old) }
     requires failed { IfSome conflict (IsConflict trail.old) }
     ensures { IfOk result (HasGiven trail.old trail.new watches.new clause.now) }
 {
@@ -90,16 +90,16 @@ fn give_first(
     watches: &mut Watches,
     clause: &[Lit],
 ) -> Result<Option<usize>, AllocError>
-    requires over { IsOver trail.old.vars clause.now }
+    requires within { IsClauseWithin trail.old.vars clause.now }
     requires ground { trail.old.starts ≡ [] }
     requires head { watches.old.head ≡ 0 }
-    requires kept { AreKept trail.old watches.old }
+    requires kept { AreWatched trail.old watches.old }
     ensures { IfOk result (HasGiven trail.old trail.new watches.new clause.now) }
 {
-    match ends_of(clause) {
-        Ends::Nothing => give_empty(trail, watches, clause),
-        Ends::Sole(lit) => give_sole(trail, watches, clause, lit),
-        Ends::Pair(first, second) => give_pair(trail, watches, clause, first, second),
+    match firsts_of(clause) {
+        Firsts::Nothing => give_empty(trail, watches, clause),
+        Firsts::Sole(lit) => give_sole(trail, watches, clause, lit),
+        Firsts::Pair(first, second) => give_pair(trail, watches, clause, first, second),
     }
 }
 
@@ -110,7 +110,7 @@ fn give_empty(
     clause: &[Lit],
 ) -> Result<Option<usize>, AllocError>
     requires empty { clause.now ≡ [] }
-    requires over { IsOver trail.old.vars clause.now }
+    requires within { IsClauseWithin trail.old.vars clause.now }
     requires ground { trail.old.starts ≡ [] }
     requires head { watches.now.head ≡ 0 }
     ensures { IfOk result (HasGiven trail.old trail.new watches.now clause.now) }
@@ -128,10 +128,10 @@ fn give_sole(
 ) -> Result<Option<usize>, AllocError>
     requires there { Contains clause.now lit }
     requires sole { ListsOnly clause.now lit }
-    requires over { IsOver trail.old.vars clause.now }
+    requires within { IsClauseWithin trail.old.vars clause.now }
     requires ground { trail.old.starts ≡ [] }
     requires head { watches.old.head ≡ 0 }
-    requires kept { AreKept trail.old watches.old }
+    requires kept { AreWatched trail.old watches.old }
     ensures { IfOk result (HasGiven trail.old trail.new watches.new clause.now) }
 {
     trail.add(clause)?;
@@ -158,10 +158,10 @@ fn give_pair(
     requires first { Contains clause.now first }
     requires second { Contains clause.now second }
     requires differ { first ≢ second }
-    requires over { IsOver trail.old.vars clause.now }
+    requires within { IsClauseWithin trail.old.vars clause.now }
     requires ground { trail.old.starts ≡ [] }
     requires head { watches.old.head ≡ 0 }
-    requires kept { AreKept trail.old watches.old }
+    requires kept { AreWatched trail.old watches.old }
     ensures { IfOk result (HasGiven trail.old trail.new watches.new clause.now) }
 {
     trail.add(clause)?;
@@ -177,12 +177,12 @@ pub(crate) fn learn(
     level: usize,
 ) -> Result<(), AllocError>
     requires above { 0 < length trail.old.starts }
-    requires kept { AreKept trail.old watches.old }
+    requires kept { AreWatched trail.old watches.old }
     requires learnt { IsLearnt trail.old lits.now }
     requires asserting { IsAsserting trail.old lits.now }
     requires jump { IsJump trail.old lits.now level }
     ensures joined { OnOk result (HasJoined trail.old trail.new lits.now) }
-    ensures kept { OnOk result (AreKept trail.new watches.new) }
+    ensures kept { OnOk result (AreWatched trail.new watches.new) }
 {
     back_to(trail, watches, level);
     join_learnt(trail, watches, lits)
@@ -191,7 +191,7 @@ pub(crate) fn learn(
 /// Adds a clause that was learnt, by which its first literal is true.
 fn join_learnt(trail: &mut Trail, watches: &mut Watches, lits: &[Lit]) -> Result<(), AllocError>
     requires some { 0 < length lits.now }
-    requires over { IsOver trail.old.vars lits.now }
+    requires within { IsClauseWithin trail.old.vars lits.now }
     requires vars { watches.old.vars ≡ trail.old.vars }
     requires reason { IsReason (trail.old.clauses ++ lits.now ∷ []) trail.old.lits (lit_at lits.now 0) (length trail.old.clauses + 1) }
     requires unset { is_in trail.old.lits (lit_at lits.now 0) ≡ false }

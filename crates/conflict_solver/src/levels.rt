@@ -2,7 +2,7 @@
 
 ghost use Rattle.std.specs.Prelude.{◌≡◌, ◌<◌, ◌≤◌, [], length, true, false, slice_index_or};
 ghost use Rattle.search_trail.specs.Trails.{IsSearch, front_size, back_at};
-ghost use Rattle.clause_watches.specs.Watching.{AreKept};
+ghost use Rattle.clause_watches.specs.Watching.{AreWatched};
 ghost use Rattle.conflict_solver.specs.Running.{room};
 
 use clause_watches::Watches;
@@ -20,10 +20,10 @@ pub(crate) fn is_ground(trail: &Trail) -> bool
 
 /// Takes back the levels above this one.
 pub(crate) fn back_to(trail: &mut Trail, watches: &mut Watches, level: usize)
-    requires { AreKept trail.old watches.old }
+    requires { AreWatched trail.old watches.old }
     ensures search { IsSearch trail.old }
     ensures trail { trail.new ≡ back_at trail.old level }
-    ensures kept { AreKept (back_at trail.old level) watches.new }
+    ensures kept { AreWatched (back_at trail.old level) watches.new }
 {
     let size = size_up_to(trail, level);
     trail.back(level);

@@ -90,6 +90,7 @@ impl Order {
         }
     }
 
+    /// Raises the score of the variable, and moves it up in the heap where it is there.
     fn raise_variable(&mut self, variable: u32) {
         let place = variable as usize;
         let Some(score) = self.scores.get_mut(place) else {
@@ -155,6 +156,7 @@ impl Order {
         Some(left)
     }
 
+    /// The score of the variable at this index of the heap, 0 where there is none.
     fn score_at(&self, index: usize) -> u64 {
         let Some(variable) = self.heap.get(index).copied() else {
             return 0;
@@ -162,6 +164,7 @@ impl Order {
         self.scores.get(variable as usize).copied().unwrap_or(0)
     }
 
+    /// Lets the variables at these two indices change places.
     fn exchange(&mut self, one: usize, other: usize)
         ensures { length self.new.heap.items ≡ length self.old.heap.items }
     {

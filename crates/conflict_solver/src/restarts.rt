@@ -14,6 +14,7 @@ pub(crate) struct Restarts {
 }
 
 impl Restarts {
+    /// The count before the first conflict.
     pub(crate) fn new() -> Restarts {
         Restarts {
             number: 1,

@@ -6,7 +6,7 @@ ghost use Rattle.clause_base.specs.Formulas.{Clauses, IsFormula};
 ghost use Rattle.proof_sinks.specs.Calls.{KeepsTold};
 ghost use Rattle.search_trail.specs.Trails.{IsSearch};
 ghost use Rattle.search_trail.specs.Learning.{IsLearnt, IsAsserting, IsJump};
-ghost use Rattle.clause_watches.specs.Watching.{AreKept, IsConflict};
+ghost use Rattle.clause_watches.specs.Watching.{AreWatched, IsConflict};
 ghost use Rattle.conflict_solver.specs.Deriving.{AreGiven, IsProofSoFar};
 ghost use Rattle.conflict_solver.specs.Answering.{IsAnswered};
 ghost use Rattle.conflict_solver.specs.Setting.{AreSet, AreTrue, IsSettled, HasDecided};
@@ -140,7 +140,7 @@ fn search<P: ProofSink>(
 ) -> Result<Verdict, SolveFault>
     requires formula { IsFormula _formula.now.vars _formula.now.clauses }
     requires live { P.live sink.old ≡ true }
-    requires kept { AreKept solver.old.trail solver.old.watches }
+    requires kept { AreWatched solver.old.trail solver.old.watches }
     requires few_lines { solver.old.left < 2 ^ 32 }
     requires under_way { IsUnderWay _formula.now solver.old.left solver.old.left (P.said sink.old) solver.old.trail }
     ensures answered { IfOk result (IsAnswered _formula.now solver.old.left (P.said sink.new)) }
@@ -164,8 +164,8 @@ fn turn<P: ProofSink>(
     requires live { P.live sink.old ≡ true }
     requires few { length (P.said sink.old) < 2 ^ 61 }
     requires small { solver.old.trail.vars < 2 ^ 31 }
-    requires kept { AreKept solver.old.trail solver.old.watches }
-    ensures kept { IfOk result (λ found. IfNone found (AreKept solver.new.trail solver.new.watches)) }
+    requires kept { AreWatched solver.old.trail solver.old.watches }
+    ensures kept { IfOk result (λ found. IfNone found (AreWatched solver.new.trail solver.new.watches)) }
     ensures under_way { (formula : Clauses) (budget : ℕ) → IsUnderWay formula budget solver.old.left (P.said sink.old) solver.old.trail
         → IfOk result (λ found. IfNone found (IsUnderWay formula budget solver.new.left (P.said sink.new) solver.new.trail)) }
     ensures answered { (formula : Clauses) (budget : ℕ) → IsUnderWay formula budget solver.old.left (P.said sink.old) solver.old.trail
@@ -194,7 +194,7 @@ fn turn<P: ProofSink>(
 /// Decides a variable that isn't set. There is a verdict where each is set, or no line is left.
 fn decide(alloc: Global, solver: &mut Solver) -> Result<Option<Verdict>, AllocError>
     requires small { solver.old.trail.vars < 2 ^ 31 }
-    requires kept { AreKept solver.old.trail solver.old.watches }
+    requires kept { AreWatched solver.old.trail solver.old.watches }
     requires done { solver.old.watches.head ≡ length solver.old.trail.lits }
     ensures verdict { IfOk result (λ found. IfSome found (IsSettled solver.old.trail solver.old.left)) }
     ensures decided { IfOk result (λ found. IfNone found (HasDecided solver.old.trail solver.new.trail)) }
@@ -215,7 +215,7 @@ fn decide(alloc: Global, solver: &mut Solver) -> Result<Option<Verdict>, AllocEr
 /// Each clause has a true literal, where each variable is set and nothing is left to propagate.
 fn all_true(trail: &Trail, watches: &Watches)
     requires set { AreSet trail.now trail.now.vars }
-    requires kept { AreKept trail.now watches.now }
+    requires kept { AreWatched trail.now watches.now }
     requires done { watches.now.head ≡ length trail.now.lits }
     ensures { AreTrue trail.now (length trail.now.clauses) }
 {
@@ -236,11 +236,11 @@ fn derive<P: ProofSink>(
     requires above { 0 < length solver.old.trail.starts }
     requires left { 0 < solver.old.left }
     requires search { IsSearch solver.old.trail }
-    requires kept { AreKept solver.old.trail solver.old.watches }
+    requires kept { AreWatched solver.old.trail solver.old.watches }
     requires conflict { IsConflict solver.old.trail conflict }
     requires live { P.live sink.old ≡ true }
     requires few { length (P.said sink.old) < 2 ^ 61 }
-    ensures kept { OnOk result (AreKept solver.new.trail solver.new.watches) }
+    ensures kept { OnOk result (AreWatched solver.new.trail solver.new.watches) }
     ensures under_way { (formula : Clauses) (budget : ℕ) → IsUnderWay formula budget solver.old.left (P.said sink.old) solver.old.trail
         → OnOk result (IsUnderWay formula budget solver.new.left (P.said sink.new) solver.new.trail) }
     ensures so_far { (formula : Clauses) (budget : ℕ) → IsUnderWay formula budget solver.old.left (P.said sink.old) solver.old.trail
@@ -262,12 +262,12 @@ fn derive<P: ProofSink>(
 fn go_on(solver: &mut Solver, lits: &[Lit], hints: &[u64], level: usize) -> Result<(), AllocError>
     requires above { 0 < length solver.old.trail.starts }
     requires left { 0 < solver.old.left }
-    requires kept { AreKept solver.old.trail solver.old.watches }
+    requires kept { AreWatched solver.old.trail solver.old.watches }
     requires learnt { IsLearnt solver.old.trail lits.now }
     requires asserting { IsAsserting solver.old.trail lits.now }
     requires jump { IsJump solver.old.trail lits.now level }
     ensures joined { OnOk result (HasJoined solver.old.trail solver.new.trail lits.now) }
-    ensures kept { OnOk result (AreKept solver.new.trail solver.new.watches) }
+    ensures kept { OnOk result (AreWatched solver.new.trail solver.new.watches) }
     ensures left { OnOk result (solver.new.left + 1 ≡ solver.old.left) }
 {
     raise_scores(&mut solver.order, &solver.trail, hints);

@@ -2,7 +2,7 @@
 
 ghost use Rattle.std.specs.Prelude.{◌≡◌, ◌<◌, ◌≤◌, ◌^◌, ◌⊎◌, pos, true, false, neg_ℤ, nat_abs, IfOk, IfSome, IfNone, All, Any};
 ghost use Rattle.clause_base.specs.Literals.{is_in};
-ghost use Rattle.clause_base.specs.Formulas.{IsOver};
+ghost use Rattle.clause_base.specs.Formulas.{IsClauseWithin};
 ghost use Rattle.conflict_solver.specs.Setting.{IsUnset, AreSet, IsSet, AreValues};
 
 use crate::order::Order;
@@ -76,7 +76,7 @@ fn first_unset(trail: &Trail) -> Option<Lit>
 /// Whether a literal of the clause is true. Each variable is set.
 pub(crate) fn is_true_in(trail: &Trail, clause: &[Lit]) -> bool
     requires set { AreSet trail.now trail.now.vars }
-    requires over { IsOver trail.now.vars clause.now }
+    requires within { IsClauseWithin trail.now.vars clause.now }
     ensures yes { result ≡ true → Any (λ l. is_in trail.now.lits l ≡ true) clause.now }
     ensures no { result ≡ false → All (λ l. is_in trail.now.lits (neg_ℤ l) ≡ true) clause.now }
 {
@@ -91,7 +91,7 @@ pub(crate) fn is_true_in(trail: &Trail, clause: &[Lit]) -> bool
 /// Whether the literal is false. Its variable is set.
 fn is_false(trail: &Trail, lit: Lit) -> bool
     requires set { AreSet trail.now trail.now.vars }
-    requires over { nat_abs lit ≤ trail.now.vars }
+    requires within { nat_abs lit ≤ trail.now.vars }
     ensures yes { result ≡ true → is_in trail.now.lits (neg_ℤ lit) ≡ true }
     ensures no { result ≡ false → is_in trail.now.lits lit ≡ true }
 {

@@ -17,8 +17,10 @@ pub enum Verdict {
 /// Why a search gives no verdict.
 #[derive(Clone, Copy, Debug, PartialEq, Eq, Error)]
 pub enum SolveFault {
+    /// A line could not be said: the sink's count of faults rose.
     #[error("a line of the proof could not be said")]
     Sink,
+    /// No memory was found, by the search or by the sink.
     #[error("out of memory")]
     NoMemory,
 }

@@ -3,7 +3,7 @@ use Rattle.std.proofs.Common.{◌≡◌, ℕ, ℤ, List, [], ◌∷◌, ◌++◌
 use Rattle.std.specs.List.{All}
 use Rattle.std.proofs.lemmas.List.{append-nil}
 use Rattle.std.proofs.lemmas.List.Elements.{All-push}
-use Rattle.clause_base.specs.Formulas.{IsOver}
+use Rattle.clause_base.specs.Formulas.{IsClauseWithin}
 use Rattle.refutation_check.specs.Following.{Follows}
 use Rattle.refutation_check.specs.Keeping.{Kept, nothing_kept, with_axiom, with_derived}
 use Rattle.proof_sinks.specs.declared.lines.Said.{Said}
@@ -44,30 +44,30 @@ pub clauses_are : (kept : Kept) (said : List Said) → HasChecked kept said → 
 clauses_are kept said checked = ap (λ k. k.clauses) checked.lines ∙ clauses_with (nothing_kept kept.vars) said
 
 -- one line more is checked
-checked_more : (kept : Kept) (said : List Said) (line : Said) → HasChecked kept said → IsOver kept.vars (clause_of line) → LineFollows (clauses_of said) line
+checked_more : (kept : Kept) (said : List Said) (line : Said) → HasChecked kept said → IsClauseWithin kept.vars (clause_of line) → LineFollows (clauses_of said) line
     → HasChecked (with_line kept line) (said ++ line ∷ [])
-checked_more kept said line checked over follows = record {
+checked_more kept said line checked within follows = record {
   lines = ap (λ k. with_line k line) checked.lines ∙ sym (with_lines-more (nothing_kept kept.vars) said line)
       ∙ ap (λ vars. with_lines (nothing_kept vars) (said ++ line ∷ [])) (sym (vars_with kept line));
   follow = AllFollow-more [] said line checked.follow follows;
-  over = subst (λ vars. All (λ l. IsOver vars (clause_of l)) (said ++ line ∷ [])) (sym (vars_with kept line))
-      (All-push (λ l. IsOver kept.vars (clause_of l)) said line checked.over over);
+  within = subst (λ vars. All (λ l. IsClauseWithin vars (clause_of l)) (said ++ line ∷ [])) (sym (vars_with kept line))
+      (All-push (λ l. IsClauseWithin kept.vars (clause_of l)) said line checked.within within);
 }
 
--- an axiom that was taken or not
-pub checked_axiom : {T E : Type 0} (result : Result T E) (kept new : Kept) (said lines : List Said) (clause : List ℤ) → HasChecked kept said → OnOk result (IsOver kept.vars clause)
+-- a given clause that was taken or not
+pub checked_axiom : {T E : Type 0} (result : Result T E) (kept new : Kept) (said lines : List Said) (clause : List ℤ) → HasChecked kept said → OnOk result (IsClauseWithin kept.vars clause)
     → OnOk result (new ≡ with_axiom kept clause) → OnOk result (lines ≡ said ++ Axiom clause ∷ []) → OnErr result (new ≡ kept) → OnErr result (lines ≡ said) → HasChecked new lines
-checked_axiom (Ok x) kept new said lines clause checked over taken more same stays =
-    subst (λ k. HasChecked k lines) (sym taken) (subst (λ ls. HasChecked (with_axiom kept clause) ls) (sym more) (checked_more kept said (Axiom clause) checked over tt))
-checked_axiom (Err e) kept new said lines clause checked over taken more same stays =
+checked_axiom (Ok x) kept new said lines clause checked within taken more same stays =
+    subst (λ k. HasChecked k lines) (sym taken) (subst (λ ls. HasChecked (with_axiom kept clause) ls) (sym more) (checked_more kept said (Axiom clause) checked within tt))
+checked_axiom (Err e) kept new said lines clause checked within taken more same stays =
     subst (λ k. HasChecked k lines) (sym same) (subst (λ ls. HasChecked kept ls) (sym stays) checked)
 
 -- a step that was taken or not
-pub checked_derived : {T E : Type 0} (result : Result T E) (kept new : Kept) (said lines : List Said) (clause : List ℤ) (hints : List ℕ) → HasChecked kept said → OnOk result (IsOver kept.vars clause)
+pub checked_derived : {T E : Type 0} (result : Result T E) (kept new : Kept) (said lines : List Said) (clause : List ℤ) (hints : List ℕ) → HasChecked kept said → OnOk result (IsClauseWithin kept.vars clause)
     → OnOk result (Follows kept.clauses clause hints) → OnOk result (new ≡ with_derived kept clause) → OnOk result (lines ≡ said ++ Derived clause hints ∷ [])
     → OnErr result (new ≡ kept) → OnErr result (lines ≡ said) → HasChecked new lines
-checked_derived (Ok x) kept new said lines clause hints checked over follows taken more same stays =
+checked_derived (Ok x) kept new said lines clause hints checked within follows taken more same stays =
     subst (λ k. HasChecked k lines) (sym taken) (subst (λ ls. HasChecked (with_derived kept clause) ls) (sym more)
-    (checked_more kept said (Derived clause hints) checked over (subst (λ cs. Follows cs clause hints) (clauses_are kept said checked) follows)))
-checked_derived (Err e) kept new said lines clause hints checked over follows taken more same stays =
+    (checked_more kept said (Derived clause hints) checked within (subst (λ cs. Follows cs clause hints) (clauses_are kept said checked) follows)))
+checked_derived (Err e) kept new said lines clause hints checked within follows taken more same stays =
     subst (λ k. HasChecked k lines) (sym same) (subst (λ ls. HasChecked kept ls) (sym stays) checked)

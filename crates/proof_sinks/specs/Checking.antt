@@ -1,6 +1,6 @@
 -- Lines that a checker accepted.
 use Rattle.std.specs.Prelude.{◌≡◌, ℤ, List, [], ◌∷◌, ◌++◌, All}
-use Rattle.clause_base.specs.Formulas.{IsOver}
+use Rattle.clause_base.specs.Formulas.{IsClauseWithin}
 use Rattle.refutation_check.specs.Following.{Follows}
 use Rattle.refutation_check.specs.Keeping.{Kept, nothing_kept, with_axiom, with_derived}
 use Rattle.proof_sinks.specs.declared.lines.Said.{Said}
@@ -31,4 +31,4 @@ AllFollow earlier (line ∷ said) = LineFollows earlier line × AllFollow (earli
 pub record HasChecked (kept : Kept) (said : List Said) : Type 0 where
   pub lines : kept ≡ with_lines (nothing_kept kept.vars) said
   pub follow : AllFollow [] said
-  pub over : All (λ line. IsOver kept.vars (clause_of line)) said
+  pub within : All (λ line. IsClauseWithin kept.vars (clause_of line)) said

@@ -1,7 +1,7 @@
 //! A sink that puts the lines through a checker.
 
 ghost use Rattle.std.specs.Prelude.{◌≡◌, ◌<◌, ◌≤◌, ◌+◌, ◌-◌, ◌^◌, true, false, min, [], ◌∷◌, ◌++◌, length, None, Err, OnOk, OnErr};
-ghost use Rattle.clause_base.specs.Formulas.{IsOver};
+ghost use Rattle.clause_base.specs.Formulas.{IsClauseWithin};
 ghost use Rattle.refutation_check.specs.Following.{Follows};
 ghost use Rattle.refutation_check.specs.Keeping.{nothing_kept, with_axiom, with_derived};
 ghost use Rattle.proof_sinks.specs.declared.lines.Said.{Said};
@@ -94,8 +94,8 @@ impl ProofSink for StepCheck {
     fn axiom(&mut self, clause: &[Lit]) -> Result<(), StepFault>
         requires live { self.old.live ≡ true }
         requires few { length self.old.said < 2 ^ 61 }
-        ensures over { OnOk result (IsOver self.old.checker.vars clause.now) }
-        ensures refused { result ≡ Err StepFault.Failed → IsOver self.old.checker.vars clause.now → ⊥ }
+        ensures within { OnOk result (IsClauseWithin self.old.checker.vars clause.now) }
+        ensures refused { result ≡ Err StepFault.Failed → IsClauseWithin self.old.checker.vars clause.now → ⊥ }
         ensures checker { OnOk result (self.new.checker ≡ with_axiom self.old.checker clause.now) }
         ensures said { OnOk result (self.new.said ≡ self.old.said ++ Said.Axiom clause.now ∷ []) }
         ensures live { OnOk result (self.new.live ≡ true) }
@@ -117,9 +117,9 @@ impl ProofSink for StepCheck {
     fn derived(&mut self, clause: &[Lit], hints: &[u64]) -> Result<(), StepFault>
         requires live { self.old.live ≡ true }
         requires few { length self.old.said < 2 ^ 61 }
-        ensures over { OnOk result (IsOver self.old.checker.vars clause.now) }
+        ensures within { OnOk result (IsClauseWithin self.old.checker.vars clause.now) }
         ensures follows { OnOk result (Follows (clauses_of self.old.said) clause.now hints.now) }
-        ensures refused { result ≡ Err StepFault.Failed → IsOver self.old.checker.vars clause.now
+        ensures refused { result ≡ Err StepFault.Failed → IsClauseWithin self.old.checker.vars clause.now
             → Follows (clauses_of self.old.said) clause.now hints.now → ⊥ }
         ensures checker { OnOk result (self.new.checker ≡ with_derived self.old.checker clause.now) }
         ensures said { OnOk result (self.new.said ≡ self.old.said ++ Said.Derived clause.now hints.now ∷ []) }
@@ -140,8 +140,8 @@ impl ProofSink for StepCheck {
 
 /// Gives a clause to the checker and keeps the line. An error changes nothing.
 fn take_axiom(checker: &mut Checker, lines: &mut Vec<Said>, clause: &[Lit]) -> Result<(), StepFault>
-    ensures over { OnOk result (IsOver checker.old.vars clause.now) }
-    ensures refused { result ≡ Err StepFault.Failed → IsOver checker.old.vars clause.now → ⊥ }
+    ensures within { OnOk result (IsClauseWithin checker.old.vars clause.now) }
+    ensures refused { result ≡ Err StepFault.Failed → IsClauseWithin checker.old.vars clause.now → ⊥ }
     ensures checker { OnOk result (checker.new ≡ with_axiom checker.old clause.now) }
     ensures lines { OnOk result (lines.new.items ≡ lines.old.items ++ Said.Axiom clause.now ∷ []) }
     ensures checker_stays { OnErr result (checker.new ≡ checker.old) }
@@ -151,7 +151,7 @@ fn take_axiom(checker: &mut Checker, lines: &mut Vec<Said>, clause: &[Lit]) -> R
     let Ok(line) = Clause::new(alloc, clause) else {
         return Err(StepFault::NoMemory);
     };
-    if !line.is_over(checker.vars()) {
+    if !line.is_within(checker.vars()) {
         return Err(StepFault::Failed);
     }
     if lines.reserve(1).is_err() || checker.axiom(line.as_slice()).is_err() {
@@ -170,9 +170,9 @@ fn take_derived(
     clause: &[Lit],
     hints: &[u64],
 ) -> Result<(), StepFault>
-    ensures over { OnOk result (IsOver checker.old.vars clause.now) }
+    ensures within { OnOk result (IsClauseWithin checker.old.vars clause.now) }
     ensures follows { OnOk result (Follows checker.old.clauses clause.now hints.now) }
-    ensures refused { result ≡ Err StepFault.Failed → IsOver checker.old.vars clause.now
+    ensures refused { result ≡ Err StepFault.Failed → IsClauseWithin checker.old.vars clause.now
         → Follows checker.old.clauses clause.now hints.now → ⊥ }
     ensures checker { OnOk result (checker.new ≡ with_derived checker.old clause.now) }
     ensures lines { OnOk result (lines.new.items ≡ lines.old.items ++ Said.Derived clause.now hints.now ∷ []) }
@@ -183,7 +183,7 @@ fn take_derived(
     let Ok(line) = Clause::new(alloc, clause) else {
         return Err(StepFault::NoMemory);
     };
-    if !line.is_over(checker.vars()) {
+    if !line.is_within(checker.vars()) {
         return Err(StepFault::Failed);
     }
     let Ok(kept) = Hints::new(alloc, hints) else {

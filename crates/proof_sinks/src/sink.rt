@@ -12,8 +12,10 @@ use thiserror::Error;
 /// Why a line was not taken.
 #[derive(Clone, Copy, Debug, PartialEq, Eq, Error)]
 pub enum StepFault {
+    /// The line could not be said: the sink's count of faults rose.
     #[error("a line of the proof could not be said")]
     Failed,
+    /// No memory was found. The line was not said.
     #[error("out of memory")]
     NoMemory,
 }

@@ -3,11 +3,11 @@ use Rattle.std.proofs.Common.{◌≡◌, ℕ, ◌+◌, ℤ, Bool, true, false, �
 use Rattle.std.specs.List.{Contains}
 use Rattle.std.proofs.lemmas.Bool.Decides.{nat_tests}
 use Rattle.std.proofs.lemmas.List.Elements.{All-push, All-contains, Contains-append_left, Contains-get_or, Contains-push}
-use Rattle.clause_base.specs.Formulas.{IsOver}
+use Rattle.clause_base.specs.Formulas.{IsClauseWithin}
 use Rattle.clause_base.specs.Literals.{is_in}
 use Rattle.clause_base.specs.Solving.{IsTrueUnder, Solves}
 use Rattle.refutation_check.specs.Following.{Runs, Follows}
-use Rattle.refutation_check.specs.Keeping.{given_of, AreUnsolvable, IsKept}
+use Rattle.refutation_check.specs.Keeping.{given_of, AreUnsolvable, IsCheckerState}
 use Rattle.refutation_check.proofs.Soundness.{following, by_either}
 
 no_empty : (holds : ℤ → Bool) (clauses : List (List ℤ)) → Contains clauses [] → Solves holds clauses → ⊥
@@ -16,15 +16,15 @@ no_empty holds clauses has solved =
     let (j, m, inside, at, true_) = subst (λ c. IsTrueUnder holds c) is (solved k [] lt) in
     omega (arith, inside)
 
-pub unsolvable : (vars : ℕ) (clauses : List (List ℤ)) (given : List Bool) (closed : Bool) → IsKept vars clauses given closed → closed ≡ true → AreUnsolvable (given_of given clauses)
+pub unsolvable : (vars : ℕ) (clauses : List (List ℤ)) (given : List Bool) (closed : Bool) → IsCheckerState vars clauses given closed → closed ≡ true → AreUnsolvable (given_of given clauses)
 unsolvable vars clauses given closed kept is holds choice solved = no_empty holds clauses (kept.empty is) (kept.sound holds choice solved)
 
-given_axiom : (given : List Bool) (clauses : List (List ℤ)) (clause : List ℤ) → length given ≡ length clauses → given_of (given ++ true ∷ []) (clauses ++ clause ∷ []) ≡ given_of given clauses ++ clause ∷ []
-given_axiom [] [] clause same = refl
-given_axiom [] (c ∷ clauses) clause same = absurd (omega (arith, same))
-given_axiom (g ∷ given) [] clause same = absurd (omega (arith, same))
-given_axiom (true ∷ given) (c ∷ clauses) clause same = ap (λ cs. c ∷ cs) (given_axiom given clauses clause (omega (arith, same)))
-given_axiom (false ∷ given) (c ∷ clauses) clause same = given_axiom given clauses clause (omega (arith, same))
+given_of_more : (given : List Bool) (clauses : List (List ℤ)) (clause : List ℤ) → length given ≡ length clauses → given_of (given ++ true ∷ []) (clauses ++ clause ∷ []) ≡ given_of given clauses ++ clause ∷ []
+given_of_more [] [] clause same = refl
+given_of_more [] (c ∷ clauses) clause same = absurd (omega (arith, same))
+given_of_more (g ∷ given) [] clause same = absurd (omega (arith, same))
+given_of_more (true ∷ given) (c ∷ clauses) clause same = ap (λ cs. c ∷ cs) (given_of_more given clauses clause (omega (arith, same)))
+given_of_more (false ∷ given) (c ∷ clauses) clause same = given_of_more given clauses clause (omega (arith, same))
 
 given_derived : (given : List Bool) (clauses : List (List ℤ)) (clause : List ℤ) → length given ≡ length clauses → given_of (given ++ false ∷ []) (clauses ++ clause ∷ []) ≡ given_of given clauses
 given_derived [] [] clause same = refl
@@ -43,12 +43,12 @@ solves_front holds clauses clause solved k d lt = All-contains (IsTrueUnder hold
 solves_last : (holds : ℤ → Bool) (clauses : List (List ℤ)) (clause : List ℤ) → Solves holds (clauses ++ clause ∷ []) → IsTrueUnder holds clause
 solves_last holds clauses clause solved = All-contains (IsTrueUnder holds) (clauses ++ clause ∷ []) clause solved (Contains-push clauses clause)
 
-kept_axiom : (vars : ℕ) (clauses : List (List ℤ)) (given : List Bool) (closed : Bool) (clause : List ℤ) → IsKept vars clauses given closed → IsOver vars clause → IsKept vars (clauses ++ clause ∷ []) (given ++ true ∷ []) closed
-kept_axiom vars clauses given closed clause kept over = record {
-  over = All-push (IsOver vars) clauses clause kept.over over;
+kept_axiom : (vars : ℕ) (clauses : List (List ℤ)) (given : List Bool) (closed : Bool) (clause : List ℤ) → IsCheckerState vars clauses given closed → IsClauseWithin vars clause → IsCheckerState vars (clauses ++ clause ∷ []) (given ++ true ∷ []) closed
+kept_axiom vars clauses given closed clause kept within = record {
+  within = All-push (IsClauseWithin vars) clauses clause kept.within within;
   paired = paired_more given clauses true clause kept.paired;
   sound = λ holds choice solved.
-      let all : Solves holds (given_of given clauses ++ clause ∷ []) = subst (λ cs. Solves holds cs) (given_axiom given clauses clause kept.paired) solved in
+      let all : Solves holds (given_of given clauses ++ clause ∷ []) = subst (λ cs. Solves holds cs) (given_of_more given clauses clause kept.paired) solved in
       All-push (IsTrueUnder holds) clauses clause (kept.sound holds choice (solves_front holds (given_of given clauses) clause all)) (solves_last holds (given_of given clauses) clause all);
   empty = λ is. Contains-append_left clauses (clause ∷ []) [] (kept.empty is);
 }
@@ -57,10 +57,10 @@ is_empty : (clause : List ℤ) → nat_eq (length clause) 0 ≡ true → clause 
 is_empty [] is = refl
 is_empty (l ∷ clause) is = let both : ⊥ = grind (arith, nat_tests, is) in absurd both
 
-pub kept_derived : (vars : ℕ) (clauses : List (List ℤ)) (given : List Bool) (closed : Bool) (clause : List ℤ) (hints : List ℕ) → IsKept vars clauses given closed → IsOver vars clause → Follows clauses clause hints
-    → IsKept vars (clauses ++ clause ∷ []) (given ++ false ∷ []) (closed || nat_eq (length clause) 0)
-kept_derived vars clauses given closed clause hints kept over follows = record {
-  over = All-push (IsOver vars) clauses clause kept.over over;
+pub kept_derived : (vars : ℕ) (clauses : List (List ℤ)) (given : List Bool) (closed : Bool) (clause : List ℤ) (hints : List ℕ) → IsCheckerState vars clauses given closed → IsClauseWithin vars clause → Follows clauses clause hints
+    → IsCheckerState vars (clauses ++ clause ∷ []) (given ++ false ∷ []) (closed || nat_eq (length clause) 0)
+kept_derived vars clauses given closed clause hints kept within follows = record {
+  within = All-push (IsClauseWithin vars) clauses clause kept.within within;
   paired = paired_more given clauses false clause kept.paired;
   sound = λ holds choice solved.
       let all : Solves holds clauses = kept.sound holds choice (subst (λ cs. Solves holds cs) (given_derived given clauses clause kept.paired) solved) in
@@ -69,18 +69,18 @@ kept_derived vars clauses given closed clause hints kept over follows = record {
       (λ none. subst (λ c. Contains (clauses ++ clause ∷ []) c) (is_empty clause none) (Contains-push clauses clause));
 }
 
-pub kept_either : {T E : Type 0} (result : Result T E) (vars : ℕ) (clauses new : List (List ℤ)) (given marks : List Bool) (closed : Bool) (clause : List ℤ) → IsKept vars clauses given closed → IsOver vars clause
-    → OnOk result (new ≡ clauses ++ clause ∷ []) → OnOk result (marks ≡ given ++ true ∷ []) → OnErr result (new ≡ clauses) → OnErr result (marks ≡ given) → IsKept vars new marks closed
-kept_either (Ok x) vars clauses new given marks closed clause kept over grown put same stays =
-    subst (λ cs. IsKept vars cs marks closed) (sym grown) (subst (λ gs. IsKept vars (clauses ++ clause ∷ []) gs closed) (sym put) (kept_axiom vars clauses given closed clause kept over))
-kept_either (Err e) vars clauses new given marks closed clause kept over grown put same stays =
-    subst (λ cs. IsKept vars cs marks closed) (sym same) (subst (λ gs. IsKept vars clauses gs closed) (sym stays) kept)
+pub kept_either : {T E : Type 0} (result : Result T E) (vars : ℕ) (clauses new : List (List ℤ)) (given marks : List Bool) (closed : Bool) (clause : List ℤ) → IsCheckerState vars clauses given closed → IsClauseWithin vars clause
+    → OnOk result (new ≡ clauses ++ clause ∷ []) → OnOk result (marks ≡ given ++ true ∷ []) → OnErr result (new ≡ clauses) → OnErr result (marks ≡ given) → IsCheckerState vars new marks closed
+kept_either (Ok x) vars clauses new given marks closed clause kept within grown put same stays =
+    subst (λ cs. IsCheckerState vars cs marks closed) (sym grown) (subst (λ gs. IsCheckerState vars (clauses ++ clause ∷ []) gs closed) (sym put) (kept_axiom vars clauses given closed clause kept within))
+kept_either (Err e) vars clauses new given marks closed clause kept within grown put same stays =
+    subst (λ cs. IsCheckerState vars cs marks closed) (sym same) (subst (λ gs. IsCheckerState vars clauses gs closed) (sym stays) kept)
 
 -- the step of a checker: the marks are those of the clause, and keeping it was no want of memory
-pub kept_step : {T E : Type 0} (result : Result T E) (vars most : ℕ) (clauses new : List (List ℤ)) (given marks : List Bool) (was closed : Bool) (clause : List ℤ) (hints : List ℕ) (set : ℤ → Bool) → IsKept vars clauses given was → IsOver vars clause
+pub kept_step : {T E : Type 0} (result : Result T E) (vars most : ℕ) (clauses new : List (List ℤ)) (given marks : List Bool) (was closed : Bool) (clause : List ℤ) (hints : List ℕ) (set : ℤ → Bool) → IsCheckerState vars clauses given was → IsClauseWithin vars clause
     → Runs clauses set hints → set ≡ is_in clause → most ≡ vars → closed ≡ (was || nat_eq (length clause) 0) → is_err result ≡ false
-    → OnOk result (new ≡ clauses ++ clause ∷ []) → OnOk result (marks ≡ given ++ false ∷ []) → IsKept most new marks closed
-kept_step (Ok x) vars most clauses new given marks was closed clause hints set kept over runs same vars_are closes fine grown put =
-    subst (λ n. IsKept n new marks closed) (sym vars_are) (subst (λ b. IsKept vars new marks b) (sym closes) (subst (λ cs. IsKept vars cs marks (was || nat_eq (length clause) 0)) (sym grown)
-    (subst (λ gs. IsKept vars (clauses ++ clause ∷ []) gs (was || nat_eq (length clause) 0)) (sym put) (kept_derived vars clauses given was clause hints kept over (subst (λ s. Runs clauses s hints) same runs)))))
-kept_step (Err e) vars most clauses new given marks was closed clause hints set kept over runs same vars_are closes fine grown put = let both : ⊥ = cc in absurd both
+    → OnOk result (new ≡ clauses ++ clause ∷ []) → OnOk result (marks ≡ given ++ false ∷ []) → IsCheckerState most new marks closed
+kept_step (Ok x) vars most clauses new given marks was closed clause hints set kept within runs same vars_are closes fine grown put =
+    subst (λ n. IsCheckerState n new marks closed) (sym vars_are) (subst (λ b. IsCheckerState vars new marks b) (sym closes) (subst (λ cs. IsCheckerState vars cs marks (was || nat_eq (length clause) 0)) (sym grown)
+    (subst (λ gs. IsCheckerState vars (clauses ++ clause ∷ []) gs (was || nat_eq (length clause) 0)) (sym put) (kept_derived vars clauses given was clause hints kept within (subst (λ s. Runs clauses s hints) same runs)))))
+kept_step (Err e) vars most clauses new given marks was closed clause hints set kept within runs same vars_are closes fine grown put = let both : ⊥ = cc in absurd both

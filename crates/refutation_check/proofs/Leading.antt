@@ -4,7 +4,7 @@ use Rattle.std.specs.List.{All}
 use Rattle.std.specs.Ordering.{int_eq}
 use Rattle.std.proofs.lemmas.List.{take_all, take_more}
 use Rattle.std.proofs.lemmas.List.Elements.{All-contains}
-use Rattle.clause_base.specs.Formulas.{IsOver}
+use Rattle.clause_base.specs.Formulas.{IsClauseWithin}
 use Rattle.clause_base.proofs.LiteralLemmas.{no_both}
 use Rattle.refutation_check.specs.Following.{IsNumber, numbered, HasFailed, IsUnit, joined, Runs}
 use Rattle.refutation_check.specs.Refusing.{Leads, IsLost, IsStuck, IsClashless}
@@ -111,6 +111,6 @@ module _ (earlier : List (List ℤ)) where
       (subst (λ h. Runs earlier fails (take i hints ++ h ∷ [])) at
       (leads_runs fails (take i hints) set (hint ∷ []) leads (number, subst (λ c. HasFailed set c) same failed)))
 
-  pub in_range : (vars : ℕ) (hint : ℕ) (clause : List ℤ) (set : ℤ → Bool) (lit : ℤ) → All (IsOver vars) earlier → IsNumber earlier hint → clause ≡ numbered earlier hint → IsUnit set clause lit → nat_abs lit ≤ vars
-  in_range vars hint clause set lit over number is unit =
-      All-contains (λ l. nat_abs l ≤ vars) clause lit (subst (IsOver vars) (sym is) (over (hint - 1) [] (omega (arith, number.some, number.most)))) unit.there
+  pub in_range : (vars : ℕ) (hint : ℕ) (clause : List ℤ) (set : ℤ → Bool) (lit : ℤ) → All (IsClauseWithin vars) earlier → IsNumber earlier hint → clause ≡ numbered earlier hint → IsUnit set clause lit → nat_abs lit ≤ vars
+  in_range vars hint clause set lit within number is unit =
+      All-contains (λ l. nat_abs l ≤ vars) clause lit (subst (IsClauseWithin vars) (sym is) (within (hint - 1) [] (omega (arith, number.some, number.most)))) unit.there

@@ -9,7 +9,7 @@ use Rattle.refutation_check.specs.declared.hints.StepRefusal.TheVariants.{NoSuch
 use Rattle.refutation_check.specs.Following.{IsNumber, numbered, HasFailed, IsUnit, joined, Follows, IsDerivation}
 use Rattle.refutation_check.specs.Refusing.{IsRefused}
 use Rattle.refutation_check.specs.Marking.{Stamps, is_marked}
-use Rattle.refutation_check.specs.Keeping.{Kept, nothing_kept, with_axiom, with_derived, axioms_of, AreUnsolvable}
+use Rattle.refutation_check.specs.Keeping.{Kept, nothing_kept, with_axiom, with_derived, given_clauses, AreUnsolvable}
 use Rattle.refutation_check.proofs.Soundness.{refutes}
 
 number : (earlier : List (List ℤ)) (hint : ℕ) → 0 < hint → hint ≤ length earlier → IsNumber earlier hint
@@ -142,7 +142,7 @@ last_is_no_unit stuck = omega (arith, stuck.inside)
 kept : Kept
 kept = with_derived (with_axiom (with_derived (with_axiom (nothing_kept 2) (pos 1 ∷ [])) (pos 1 ∷ pos 2 ∷ [])) (negsuc 0 ∷ [])) []
 
-given : axioms_of kept ≡ (pos 1 ∷ []) ∷ (negsuc 0 ∷ []) ∷ []
+given : given_clauses kept ≡ (pos 1 ∷ []) ∷ (negsuc 0 ∷ []) ∷ []
 unfolding kept
 given = refl
 

@@ -27,12 +27,17 @@ pub record IsUnit (fails : ℤ → Bool) (clause : List ℤ) (lit : ℤ) : Type 
 abbrev pub joined : ℤ → (ℤ → Bool) → ℤ → Bool
 joined lit fails m = int_eq m (neg_ℤ lit) || fails m
 
+-- The hint names an earlier clause with one literal outside the set, and this holds of the set that the negation of that
+-- literal has joined.
+abbrev pub StepsOn : List (List ℤ) → (ℤ → Bool) → ℕ → ((ℤ → Bool) → Type 0) → Type 0
+StepsOn earlier fails hint after = IsNumber earlier hint × (lit : ℤ) × IsUnit fails (numbered earlier hint) lit × after (joined lit fails)
+
 -- The hints lead from this set to a clause that has failed: each clause but the last has one literal outside, whose
 -- negation joins the set, and the last has none.
 abbrev pub Runs : List (List ℤ) → (ℤ → Bool) → List ℕ → Type 0
 Runs earlier fails [] = ⊥
 Runs earlier fails (hint ∷ []) = IsNumber earlier hint × HasFailed fails (numbered earlier hint)
-Runs earlier fails (hint ∷ next ∷ hints) = IsNumber earlier hint × (lit : ℤ) × IsUnit fails (numbered earlier hint) lit × Runs earlier (joined lit fails) (next ∷ hints)
+Runs earlier fails (hint ∷ next ∷ hints) = StepsOn earlier fails hint (λ set. Runs earlier set (next ∷ hints))
 
 -- the hints lead from the clause's own literals to a clause that has failed
 abbrev pub Follows : List (List ℤ) → List ℤ → List ℕ → Type 0

@@ -1,6 +1,6 @@
 -- What a checker keeps.
 use Rattle.std.specs.Prelude.{◌≡◌, ℕ, ℤ, Bool, true, false, ◌||◌, nat_eq, List, [], ◌∷◌, ◌++◌, length, All, Contains}
-use Rattle.clause_base.specs.Formulas.{IsOver}
+use Rattle.clause_base.specs.Formulas.{IsClauseWithin}
 use Rattle.clause_base.specs.Solving.{Solves}
 use Rattle.clause_base.specs.Teaching.{IsConsistent}
 
@@ -31,16 +31,16 @@ given_of (is_given ∷ given) [] = []
 given_of (true ∷ given) (clause ∷ clauses) = clause ∷ given_of given clauses
 given_of (false ∷ given) (clause ∷ clauses) = given_of given clauses
 
-abbrev pub axioms_of : Kept → List (List ℤ)
-axioms_of kept = given_of kept.given kept.clauses
+abbrev pub given_clauses : Kept → List (List ℤ)
+given_clauses kept = given_of kept.given kept.clauses
 
 -- no values make each of the clauses true
 abbrev pub AreUnsolvable : List (List ℤ) → Type 0
 AreUnsolvable clauses = (holds : ℤ → Bool) → IsConsistent holds → Solves holds clauses → ⊥
 
 -- What a checker keeps true: whatever solves the given clauses solves all, and an empty one is there once it is closed.
-pub record IsKept (vars : ℕ) (clauses : List (List ℤ)) (given : List Bool) (closed : Bool) : Type 0 where
-  pub over : All (IsOver vars) clauses
+pub record IsCheckerState (vars : ℕ) (clauses : List (List ℤ)) (given : List Bool) (closed : Bool) : Type 0 where
+  pub within : All (IsClauseWithin vars) clauses
   pub paired : length given ≡ length clauses
   pub sound : (holds : ℤ → Bool) → IsConsistent holds → Solves holds (given_of given clauses) → Solves holds clauses
   pub empty : closed ≡ true → Contains clauses []

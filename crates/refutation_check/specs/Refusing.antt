@@ -1,6 +1,6 @@
 -- Why a clause doesn't follow by its hints: the first hint at fault. Hints count from 0.
 use Rattle.std.specs.Prelude.{◌≡◌, ◌⊎◌, ℕ, ◌+◌, ◌<◌, ◌-◌, ℤ, Bool, List, [], ◌∷◌, length, take, slice_index_or}
-use Rattle.refutation_check.specs.Following.{IsNumber, numbered, HasFailed, IsUnit, joined}
+use Rattle.refutation_check.specs.Following.{IsNumber, numbered, HasFailed, IsUnit, StepsOn}
 use Rattle.refutation_check.specs.declared.hints.StepRefusal.{StepRefusal}
 use Rattle.refutation_check.specs.declared.hints.StepRefusal.TheVariants.{NoSuchClause, NotUnit, NoClash, NoMemory}
 
@@ -8,7 +8,7 @@ use Rattle.refutation_check.specs.declared.hints.StepRefusal.TheVariants.{NoSuch
 -- first set to the last.
 abbrev pub Leads : List (List ℤ) → (ℤ → Bool) → List ℕ → (ℤ → Bool) → Type 0
 Leads earlier fails [] set = set ≡ fails
-Leads earlier fails (hint ∷ hints) set = IsNumber earlier hint × (lit : ℤ) × IsUnit fails (numbered earlier hint) lit × Leads earlier (joined lit fails) hints set
+Leads earlier fails (hint ∷ hints) set = StepsOn earlier fails hint (λ after. Leads earlier after hints set)
 
 -- the hints before this one lead on, and this one names no earlier clause
 pub record IsLost (earlier : List (List ℤ)) (fails : ℤ → Bool) (hints : List ℕ) (index : ℕ) : Type 0 where

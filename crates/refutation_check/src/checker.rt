@@ -1,10 +1,12 @@
+//! The checker of one derivation.
+
 ghost use Rattle.std.specs.Prelude.{◌≡◌, ◌⊎◌, ◌∷◌, ◌++◌, ◌||◌, [], true, nat_eq, length, OnOk, OnErr, IfOk, IfErr};
 ghost use Rattle.clause_base.specs.Literals.{is_in};
-ghost use Rattle.clause_base.specs.Formulas.{IsOver};
+ghost use Rattle.clause_base.specs.Formulas.{IsClauseWithin};
 ghost use Rattle.refutation_check.specs.Following.{Follows};
 ghost use Rattle.refutation_check.specs.Refusing.{IsRefused};
 ghost use Rattle.refutation_check.specs.Marking.{is_marked};
-ghost use Rattle.refutation_check.specs.Keeping.{nothing_kept, with_axiom, with_derived, axioms_of, AreUnsolvable};
+ghost use Rattle.refutation_check.specs.Keeping.{nothing_kept, with_axiom, with_derived, given_clauses, AreUnsolvable};
 
 use crate::hints::{StepRefusal, follow};
 use crate::marks::Marks;
@@ -24,13 +26,13 @@ pub struct Checker {
 }
 
 impl Model for Checker {
-    ghost use Rattle.refutation_check.specs.Keeping.{Kept, IsKept};
+    ghost use Rattle.refutation_check.specs.Keeping.{Kept, IsCheckerState};
 
     ghost Value = { Kept };
 
     ghost view = { λ c. record { vars = c.marks.vars; clauses = c.store; given = c.given.items; closed = c.is_closed } };
 
-    ghost invariant = { λ c. IsKept c.marks.vars c.store c.given.items c.is_closed };
+    ghost invariant = { λ c. IsCheckerState c.marks.vars c.store c.given.items c.is_closed };
 }
 
 impl Checker {
@@ -56,7 +58,7 @@ impl Checker {
 
     /// Takes a clause as given. Want of memory changes nothing.
     pub fn axiom(&mut self, clause: &[Lit]) -> Result<(), AllocError>
-        requires { IsOver self.old.vars clause.now }
+        requires { IsClauseWithin self.old.vars clause.now }
         ensures taken { OnOk result (self.new ≡ with_axiom self.old clause.now) }
         ensures kept { OnErr result (self.new ≡ self.old) }
     {
@@ -66,7 +68,7 @@ impl Checker {
     /// Takes a clause that follows by these hints from the clauses so far, and refuses any other. A refused step
     /// changes nothing.
     pub fn step(&mut self, clause: &[Lit], hints: &[u64]) -> Result<(), StepRefusal>
-        requires { IsOver self.old.vars clause.now }
+        requires { IsClauseWithin self.old.vars clause.now }
         ensures follows { OnOk result (Follows self.old.clauses clause.now hints.now) }
         ensures taken { OnOk result (self.new ≡ with_derived self.old clause.now) }
         ensures refused { IfErr result (λ refusal. IsRefused self.old.clauses (is_in clause.now) hints.now refusal) }
@@ -85,7 +87,7 @@ impl Checker {
     /// Whether an empty clause was derived. Then no values solve the given clauses.
     pub fn closed(&self) -> bool
         ensures closed { result ≡ self.now.closed }
-        ensures refuted { result ≡ true → AreUnsolvable (axioms_of self.now) }
+        ensures refuted { result ≡ true → AreUnsolvable (given_clauses self.now) }
     {
         self.is_closed
     }
@@ -93,7 +95,7 @@ impl Checker {
 
 /// Makes the set that of the clause's literals.
 fn mark_clause(marks: &mut Marks, clause: &[Lit])
-    requires { IsOver marks.old.vars clause.now }
+    requires { IsClauseWithin marks.old.vars clause.now }
     ensures vars { marks.new.vars ≡ marks.old.vars }
     ensures same { is_marked marks.new ≡ is_in clause.now }
 {

@@ -1,7 +1,7 @@
 //! The hints of a step, one after the other.
 
 ghost use Rattle.std.specs.Prelude.{◌≡◌, ◌≢◌, true, false, ◌-◌, OnOk, IfErr, IfSome, IfNone, All, ◌⊎◌};
-ghost use Rattle.clause_base.specs.Formulas.{IsOver};
+ghost use Rattle.clause_base.specs.Formulas.{IsClauseWithin};
 ghost use Rattle.refutation_check.specs.Following.{IsNumber, numbered, Runs};
 ghost use Rattle.refutation_check.specs.Refusing.{IsRefused};
 ghost use Rattle.refutation_check.specs.Left.{IsLeft};
@@ -27,15 +27,17 @@ pub enum StepRefusal {
 /// How much of a clause is outside a set of literals.
 #[derive(Clone, Copy, Debug, PartialEq, Eq)]
 pub(crate) enum Left {
+    /// No literal.
     Nothing,
     /// This literal alone, however often it is listed.
     Sole(Lit),
+    /// Two literals or more that differ.
     Several,
 }
 
 /// Whether the hints lead from this set of false literals to a clause that has failed. The set grows on the way.
 pub(crate) fn follow(store: &Store, marks: &mut Marks, hints: &[u64]) -> Result<(), StepRefusal>
-    requires { All (IsOver marks.old.vars) store.now }
+    requires { All (IsClauseWithin marks.old.vars) store.now }
     ensures vars { marks.new.vars ≡ marks.old.vars }
     ensures runs { OnOk result (Runs store.now (is_marked marks.old) hints.now) }
     ensures refused { IfErr result (λ refusal. IsRefused store.now (is_marked marks.old) hints.now refusal) }

@@ -1,3 +1,5 @@
+//! Tests of the checker.
+
 use crate::{Checker, StepRefusal};
 use clause_base::{Clause, Lit};
 use std::alloc::{AllocError, Global};
@@ -17,7 +19,7 @@ fn clause(alloc: Global, numbers: &[i32]) -> Result<Clause, AllocError> {
 /// Takes a clause of these numbers as given.
 fn give(alloc: Global, checker: &mut Checker, numbers: &[i32]) -> Result<(), Fail> {
     let clause = clause(alloc, numbers)?;
-    if clause.is_over(checker.vars()) {
+    if clause.is_within(checker.vars()) {
         checker.axiom(clause.as_slice())?;
     }
     Ok(())
@@ -31,7 +33,7 @@ fn tried(
     hints: &[u64],
 ) -> Result<Option<Result<(), StepRefusal>>, Fail> {
     let clause = clause(alloc, numbers)?;
-    if !clause.is_over(checker.vars()) {
+    if !clause.is_within(checker.vars()) {
         return Ok(None);
     }
     Ok(Some(checker.step(clause.as_slice(), hints)))

@@ -3,16 +3,17 @@ use Rattle.std.proofs.Common.{◌≡◌, ℕ, ◌+◌, ◌-◌, ◌<◌, ◌≤�
 use Rattle.std.specs.List.{All, Contains}
 use Rattle.std.proofs.lemmas.Int.{ints}
 use Rattle.std.proofs.lemmas.Bool.{cases_lt}
+use Rattle.std.proofs.lemmas.Bool.Decides.{nat_tests}
 use Rattle.std.proofs.lemmas.List.{length_push, length-take, length-take-le, take_all, take-take, take-append-le, take_at, get_or-take, get_or_past, get_or_append_left, get_or_push, get_or_default}
 use Rattle.std.proofs.lemmas.List.Elements.{All-contains, All-push, All-take, Contains-append_left, Contains-push, Contains-push_cases}
 use Rattle.std.proofs.Math.IntN.{neg_ℤ-neg_ℤ}
 use Rattle.clause_base.specs.Literals.{is_in, IsLiteral}
-use Rattle.clause_base.specs.Formulas.{IsOver}
+use Rattle.clause_base.specs.Formulas.{IsClauseWithin}
 use Rattle.clause_base.specs.Teaching.{AllButNegated}
 use Rattle.clause_base.proofs.LiteralLemmas.{no_both, contains_in, in_contains}
 use Rattle.refutation_check.specs.Following.{numbered}
 use Rattle.search_trail.specs.Trails.{lit_at, reason_at, start_at, IsOnce, IsReason, AreStarts, IsTrail}
-use Rattle.search_trail.proofs.Members.{by_push, lit_before, lit_new, not_at, in_taken}
+use Rattle.search_trail.proofs.Members.{by_push, lit_before, lit_new, not_at, in_taken, start_before, start_new}
 
 -- ---- a clause more
 
@@ -25,10 +26,10 @@ reason_more cs clause before lit number is = record {
   same : numbered cs number ≡ numbered (cs ++ clause ∷ []) number
   same = sym (get_or_append_left cs (clause ∷ []) [] (number - 1) (omega (arith, is.known.some, is.known.most)))
 
-pub clause_more : (vars : ℕ) (cs new : List (List ℤ)) (lits clause : List ℤ) (reasons : List (Option ℕ)) (starts : List ℕ) → IsTrail vars cs lits reasons starts → IsOver vars clause
+pub clause_more : (vars : ℕ) (cs new : List (List ℤ)) (lits clause : List ℤ) (reasons : List (Option ℕ)) (starts : List ℕ) → IsTrail vars cs lits reasons starts → IsClauseWithin vars clause
     → new ≡ cs ++ clause ∷ [] → IsTrail vars new lits reasons starts
-clause_more vars cs new lits clause reasons starts t over is = subst (λ n. IsTrail vars n lits reasons starts) (sym is) (record {
-  over = All-push (IsOver vars) cs clause t.over over;
+clause_more vars cs new lits clause reasons starts t within is = subst (λ n. IsTrail vars n lits reasons starts) (sym is) (record {
+  within = All-push (IsClauseWithin vars) cs clause t.within within;
   small = t.small;
   once = t.once;
   reasoned = record {
@@ -40,15 +41,15 @@ clause_more vars cs new lits clause reasons starts t over is = subst (λ n. IsTr
   levels = t.levels;
 })
 
-pub clause_tried : {A E : Type 0} (vars : ℕ) (cs new : List (List ℤ)) (lits clause : List ℤ) (reasons : List (Option ℕ)) (starts : List ℕ) (r : Result A E) → IsTrail vars cs lits reasons starts → IsOver vars clause
+pub clause_tried : {A E : Type 0} (vars : ℕ) (cs new : List (List ℤ)) (lits clause : List ℤ) (reasons : List (Option ℕ)) (starts : List ℕ) (r : Result A E) → IsTrail vars cs lits reasons starts → IsClauseWithin vars clause
     → IfOk r (λ _. new ≡ cs ++ clause ∷ []) → OnErr r (new ≡ cs) → IsTrail vars new lits reasons starts
-clause_tried vars cs new lits clause reasons starts (Ok x) t over ok err = clause_more vars cs new lits clause reasons starts t over ok
-clause_tried vars cs new lits clause reasons starts (Err e) t over ok err = subst (λ n. IsTrail vars n lits reasons starts) (sym err) t
+clause_tried vars cs new lits clause reasons starts (Ok x) t within ok err = clause_more vars cs new lits clause reasons starts t within ok
+clause_tried vars cs new lits clause reasons starts (Err e) t within ok err = subst (λ n. IsTrail vars n lits reasons starts) (sym err) t
 
 -- ---- a literal more
 
 not_own : (lit : ℤ) → IsLiteral lit → lit ≡ neg_ℤ lit → ⊥
-not_own lit is same = let some : 0 < nat_abs lit = is.some in grind (arith, ints, some, same)
+not_own lit is same = grind (arith, ints, nat_tests, is, same)
 
 once_more : (lits : List ℤ) (lit : ℤ) → IsOnce lits → IsLiteral lit → is_in lits lit ≡ false → is_in lits (neg_ℤ lit) ≡ false → IsOnce (lits ++ lit ∷ [])
 once_more lits lit once literal unset unset_negated = record {
@@ -76,7 +77,7 @@ module _ (vars : ℕ) (cs : List (List ℤ)) (lits : List ℤ) (reasons : List (
       → ((p : ℕ) → Contains after p → Contains starts p ⊎ ((length lits ≡ p) × (reason ≡ None))) → AreStarts after (length lits + 1)
       → IsTrail vars cs (lits ++ lit ∷ []) (reasons ++ reason ∷ []) after
   literal_more lit reason after literal small unset unset_negated implied decided grown begun levels = record {
-    over = t.over;
+    within = t.within;
     small = All-push (λ l. nat_abs l ≤ vars) lits lit t.small small;
     once = once_more lits lit t.once literal unset unset_negated;
     reasoned = record {
@@ -129,24 +130,18 @@ module _ (vars : ℕ) (cs : List (List ℤ)) (lits : List ℤ) (reasons : List (
       not_none : (a : ℕ) → None ≡ Some a → ⊥
       not_none a same = cc
 
-      at_old : (j : ℕ) → j < length starts → start_at (starts ++ length lits ∷ []) j ≡ start_at starts j
-      at_old j lt = get_or_append_left starts (length lits ∷ []) 0 j lt
-
-      at_new : (j : ℕ) → length starts ≡ j → start_at (starts ++ length lits ∷ []) j ≡ length lits
-      at_new j is = get_or_push starts (length lits) 0 j is
-
       inside : (j : ℕ) → j < length (starts ++ length lits ∷ []) → start_at (starts ++ length lits ∷ []) j < length lits + 1
       inside j lt = elim (cases_lt j (length starts)) [
-        | inl old ↦ omega (arith, at_old j old, t.levels.inside j old)
-        | inr new ↦ omega (arith, at_new j (omega (arith, new, lt, length_push starts (length lits))))
+        | inl old ↦ omega (arith, start_before starts (length lits) j old, t.levels.inside j old)
+        | inr new ↦ omega (arith, start_new starts (length lits) j (omega (arith, new, lt, length_push starts (length lits))))
       ]
 
       rising : (i j : ℕ) → i < j → j < length (starts ++ length lits ∷ []) → start_at (starts ++ length lits ∷ []) i < start_at (starts ++ length lits ∷ []) j
       rising i j ij lt = elim (cases_lt j (length starts)) [
-        | inl old ↦ omega (arith, at_old j old, at_old i (omega (arith, ij, old)), t.levels.rising i j ij old)
+        | inl old ↦ omega (arith, start_before starts (length lits) j old, start_before starts (length lits) i (omega (arith, ij, old)), t.levels.rising i j ij old)
         | inr new ↦
             let low : i < length starts = omega (arith, ij, lt, length_push starts (length lits)) in
-            omega (arith, at_old i low, t.levels.inside i low, at_new j (omega (arith, new, lt, length_push starts (length lits))))
+            omega (arith, start_before starts (length lits) i low, t.levels.inside i low, start_new starts (length lits) j (omega (arith, new, lt, length_push starts (length lits))))
       ]
 
   -- ---- levels are taken back
@@ -159,7 +154,7 @@ module _ (vars : ℕ) (cs : List (List ℤ)) (lits : List ℤ) (reasons : List (
 
   pub levels_back : (level size : ℕ) → size ≡ slice_index_or starts level (length lits) → IsTrail vars cs (take size lits) (take size reasons) (take level starts)
   levels_back level size is = record {
-    over = t.over;
+    within = t.within;
     small = All-take (λ l. nat_abs l ≤ vars) size lits t.small;
     once = record {
       once = λ p q plt qlt same. t.once.once p q (omega (arith, plt, long, within)) (omega (arith, qlt, long, within))
@@ -239,9 +234,9 @@ changed vars vars' cs lits lits' reasons reasons' starts starts' v l r s t =
     subst (λ x. IsTrail x cs lits' reasons' starts') (sym v) (subst (λ x. IsTrail vars cs x reasons' starts') (sym l)
     (subst (λ x. IsTrail vars cs lits x starts') (sym r) (subst (λ x. IsTrail vars cs lits reasons x) (sym s) t)))
 
-reason_small : (vars : ℕ) (cs : List (List ℤ)) (before : List ℤ) (lit : ℤ) (number : ℕ) → All (IsOver vars) cs → IsReason cs before lit number → nat_abs lit ≤ vars
-reason_small vars cs before lit number over is = All-contains (λ l. nat_abs l ≤ vars) (numbered cs number) lit
-    (over (number - 1) [] (omega (arith, is.known.some, is.known.most))) is.there
+reason_small : (vars : ℕ) (cs : List (List ℤ)) (before : List ℤ) (lit : ℤ) (number : ℕ) → All (IsClauseWithin vars) cs → IsReason cs before lit number → nat_abs lit ≤ vars
+reason_small vars cs before lit number within is = All-contains (λ l. nat_abs l ≤ vars) (numbered cs number) lit
+    (within (number - 1) [] (omega (arith, is.known.some, is.known.most))) is.there
 
 module _ (vars vars' : ℕ) (cs : List (List ℤ)) (lits lits' : List ℤ) (reasons reasons' : List (Option ℕ)) (starts starts' : List ℕ) (same : vars' ≡ vars) (t : IsTrail vars cs lits reasons starts) where
   pub back_by : (level size : ℕ) → size ≡ slice_index_or starts level (length lits) → lits' ≡ take size lits → reasons' ≡ take size reasons → starts' ≡ take level starts → IsTrail vars' cs lits' reasons' starts'
@@ -256,5 +251,5 @@ module _ (vars vars' : ℕ) (cs : List (List ℤ)) (lits lits' : List ℤ) (reas
       → OnOk r (lits' ≡ lits ++ lit ∷ []) → OnOk r (reasons' ≡ reasons ++ Some number ∷ []) → OnErr r (lits' ≡ lits) → OnErr r (reasons' ≡ reasons) → IsTrail vars' cs lits' reasons' starts
   implied_by (Ok x) lit number unset unset_negated reason literal l why l_same why_same =
       changed vars vars' cs (lits ++ lit ∷ []) lits' (reasons ++ Some number ∷ []) reasons' starts starts same l why refl
-      (implied_more vars cs lits reasons starts t lit number literal (reason_small vars cs lits lit number t.over reason) unset unset_negated reason)
+      (implied_more vars cs lits reasons starts t lit number literal (reason_small vars cs lits lit number t.within reason) unset unset_negated reason)
   implied_by (Err e) lit number unset unset_negated reason literal l why l_same why_same = changed vars vars' cs lits lits' reasons reasons' starts starts same l_same why_same refl t

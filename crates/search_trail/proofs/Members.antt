@@ -6,7 +6,7 @@ use Rattle.std.proofs.lemmas.List.{get_or-take, length-take-le, take_all, get_or
 use Rattle.std.proofs.lemmas.List.Folds.{Any-from_list_any, list_any_at}
 use Rattle.clause_base.specs.Literals.{is_in}
 use Rattle.clause_base.proofs.LiteralLemmas.{by_test, no_both, same_lit, same_test}
-use Rattle.search_trail.specs.Trails.{lit_at}
+use Rattle.search_trail.specs.Trails.{lit_at, start_at}
 
 -- where a literal of a list stands
 pub record IsAt (lits : List ℤ) (l : ℤ) : Type 0 where
@@ -76,7 +76,7 @@ lit_before xs x p lt = get_or_append_left xs (x ∷ []) (pos 0) p lt
 pub lit_new : (xs : List ℤ) (x : ℤ) (p : ℕ) → length xs ≡ p → lit_at (xs ++ x ∷ []) p ≡ x
 lit_new xs x p at = get_or_push xs x (pos 0) p at
 
-pub by_push : {P : Type 0} (xs : List ℤ) (x : ℤ) (p : ℕ) → p < length (xs ++ x ∷ []) → (p < length xs → P) → (length xs ≡ p → P) → P
+pub by_push : {A P : Type 0} (xs : List A) (x : A) (p : ℕ) → p < length (xs ++ x ∷ []) → (p < length xs → P) → (length xs ≡ p → P) → P
 by_push xs x p lt old new = elim (cases_lt p (length xs)) [
   | inl less ↦ old less
   | inr more ↦ new (omega (arith, more, lt, length_push xs x))
@@ -84,3 +84,11 @@ by_push xs x p lt old new = elim (cases_lt p (length xs)) [
 
 pub in_pushed : (xs : List ℤ) (x l : ℤ) → is_in xs l ≡ true → is_in (xs ++ x ∷ []) l ≡ true
 in_pushed xs x l is = let at = in_at xs l is in in_from (xs ++ x ∷ []) l at.place (omega (arith, at.inside, length_push xs x)) (lit_before xs x at.place at.inside ∙ at.here)
+
+-- ---- one place more
+
+pub start_before : (xs : List ℕ) (x k : ℕ) → k < length xs → start_at (xs ++ x ∷ []) k ≡ start_at xs k
+start_before xs x k lt = get_or_append_left xs (x ∷ []) 0 k lt
+
+pub start_new : (xs : List ℕ) (x k : ℕ) → length xs ≡ k → start_at (xs ++ x ∷ []) k ≡ x
+start_new xs x k is = get_or_push xs x 0 k is

@@ -29,19 +29,19 @@ module _ (ranks after : List ℕ) (lit : ℤ) (to : ℕ) (changed : (m : ℤ) �
       (λ is. here (same_lit m lit is) (rank_here m (same_lit m lit is)))
       (λ is. there (differ m lit is) (rank_there m is))
 
+-- a literal with a place
+not_free : (n : ℕ) → 0 < n → free n ≡ 0
+not_free n lt = grind (arith, nat_tests, lt)
+
 filled : (ranks after : List ℕ) (c to size : ℕ) → c < length ranks → after ≡ set ranks c to → get_or ranks c 0 ≡ 0 → 0 < to → size + sum_by free ranks ≡ length ranks → size + 1 + sum_by free after ≡ length after
 filled ranks after c to size lt is none some room =
     subst (λ r. size + 1 + sum_by free r ≡ length r) (sym is)
-    (omega (arith, sum_by-set free ranks c to 0 lt, ap free none, one to some, room, length-set ranks c to)) where
-      one : (n : ℕ) → 0 < n → free n ≡ 0
-      one n lt = grind (arith, nat_tests, lt)
+    (omega (arith, sum_by-set free ranks c to 0 lt, ap free none, not_free to some, room, length-set ranks c to))
 
 emptied : (ranks after : List ℕ) (c size : ℕ) → c < length ranks → after ≡ set ranks c 0 → 0 < get_or ranks c 0 → size + 1 + sum_by free ranks ≡ length ranks → size + sum_by free after ≡ length after
 emptied ranks after c size lt is some room =
     subst (λ r. size + sum_by free r ≡ length r) (sym is)
-    (omega (arith, sum_by-set free ranks c 0 0 lt, one (get_or ranks c 0) some, room, length-set ranks c 0)) where
-      one : (n : ℕ) → 0 < n → free n ≡ 0
-      one n lt = grind (arith, nat_tests, lt)
+    (omega (arith, sum_by-set free ranks c 0 0 lt, not_free (get_or ranks c 0) some, room, length-set ranks c 0))
 
 module _ (vars : ℕ) (ranks after : List ℕ) (lits new : List ℤ) (lit : ℤ) (placed : IsPlaced vars ranks lits) where
   pub pushed : (to : ℕ) → is_in lits lit ≡ false → code_of lit < length ranks → new ≡ lits ++ lit ∷ [] → to ≡ length lits + 1 → after ≡ set ranks (code_of lit) to

@@ -6,7 +6,7 @@ use Rattle.std.specs.Ordering.{int_eq}
 use Rattle.std.proofs.lemmas.Int.{ints}
 use Rattle.std.proofs.lemmas.Bool.{cases_lt}
 use Rattle.std.proofs.lemmas.Bool.Decides.{nat_tests}
-use Rattle.std.proofs.lemmas.List.{length_push, reverse-append, get_or_append_left, get_or_push, get_or_default, get_or-set_same}
+use Rattle.std.proofs.lemmas.List.{length_push, reverse-append, get_or_default, get_or-set_same}
 use Rattle.clause_base.specs.Literals.{is_in}
 use Rattle.clause_base.proofs.LiteralLemmas.{by_test, no_both, same_lit, in_contains}
 use Rattle.refutation_check.specs.Following.{IsNumber, numbered, IsUnit, joined, Runs}
@@ -14,7 +14,7 @@ use Rattle.refutation_check.proofs.Soundness.{by_either}
 use Rattle.refutation_check.proofs.Leading.{leads_runs}
 use Rattle.search_trail.specs.Trails.{Search, lit_at, start_at, IsOnce, IsReason, AreStarts}
 use Rattle.search_trail.specs.Walking.{is_seen, MayStay, IsWalk}
-use Rattle.search_trail.proofs.Members.{in_from, in_at, take_at}
+use Rattle.search_trail.proofs.Members.{in_from, in_at, take_at, by_push, start_before, start_new}
 
 -- the places of a clause's negations below this one are marked
 abbrev pub AreMarked : List ℤ → List Bool → ℕ → List ℤ → Type 0
@@ -81,33 +81,22 @@ module _ (s : Search) (once : IsOnce s.lits) where
       size = w.size;
       run = λ fails on low held. w.run fails on (λ p less is. elim (cases_lt p place) [
         | inl below ↦ low p below is
-        | inr here ↦ subst (λ n. fails (neg_ℤ (lit_at s.lits n)) ≡ true) (at_new (length kept) refl ∙ omega (arith, less, here)) (held (length kept) (omega (arith, length_push kept place)))
-      ]) (λ k lt. subst (λ n. fails (neg_ℤ (lit_at s.lits n)) ≡ true) (at_old k lt) (held k (omega (arith, lt, length_push kept place))));
-      down = λ k lt. by_kept k lt (λ old. omega (arith, at_old k old, w.down k old)) (λ new. omega (arith, at_new k new));
-      inside = λ k lt. by_kept k lt (λ old. omega (arith, at_old k old, w.inside k old)) (λ new. omega (arith, at_new k new, inside));
-      falling = λ j k jk lt. by_kept k lt
-          (λ old. omega (arith, at_old k old, at_old j (omega (arith, jk, old)), w.falling j k jk old))
-          (λ new. omega (arith, at_new k new, at_old j (omega (arith, jk, new)), w.down j (omega (arith, jk, new))));
+        | inr here ↦ subst (λ n. fails (neg_ℤ (lit_at s.lits n)) ≡ true) (start_new kept place (length kept) refl ∙ omega (arith, less, here)) (held (length kept) (omega (arith, length_push kept place)))
+      ]) (λ k lt. subst (λ n. fails (neg_ℤ (lit_at s.lits n)) ≡ true) (start_before kept place k lt) (held k (omega (arith, lt, length_push kept place))));
+      down = λ k lt. by_push kept place k lt (λ old. omega (arith, start_before kept place k old, w.down k old)) (λ new. omega (arith, start_new kept place k new));
+      inside = λ k lt. by_push kept place k lt (λ old. omega (arith, start_before kept place k old, w.inside k old)) (λ new. omega (arith, start_new kept place k new, inside));
+      falling = λ j k jk lt. by_push kept place k lt
+          (λ old. omega (arith, start_before kept place k old, start_before kept place j (omega (arith, jk, old)), w.falling j k jk old))
+          (λ new. omega (arith, start_new kept place k new, start_before kept place j (omega (arith, jk, new)), w.down j (omega (arith, jk, new))));
       level = λ some. stays.level;
-      others = λ k some lt. by_kept k lt
-          (λ old. omega (arith, at_old k old, w.others k some old))
+      others = λ k some lt. by_push kept place k lt
+          (λ old. omega (arith, start_before kept place k old, w.others k some old))
           (λ new. elim (cases_lt place (start_at s.starts (length s.starts - 1))) [
-            | inl low ↦ omega (arith, at_new k new, low)
+            | inl low ↦ omega (arith, start_new kept place k new, low)
             | inr high ↦ no_both is_here (w.alone (omega (arith, some, new)) place high (omega arith))
           ]);
       alone = λ some q more less. stays.alone (omega (arith, more, less)) q more less;
-    } where
-      at_old : (k : ℕ) → k < length kept → start_at (kept ++ place ∷ []) k ≡ start_at kept k
-      at_old k lt = get_or_append_left kept (place ∷ []) 0 k lt
-
-      at_new : (k : ℕ) → length kept ≡ k → start_at (kept ++ place ∷ []) k ≡ place
-      at_new k is = get_or_push kept place 0 k is
-
-      by_kept : {P : Type 0} (k : ℕ) → k < length (kept ++ place ∷ []) → (k < length kept → P) → (length kept ≡ k → P) → P
-      by_kept k lt old new = elim (cases_lt k (length kept)) [
-        | inl less ↦ old less
-        | inr more ↦ new (omega (arith, more, lt, length_push kept place))
-      ]
+    }
 
     pub resolves : (after : List Bool) (number : ℕ) → place < length s.lits → is_seen seen place ≡ true → IsReason s.clauses (take place s.lits) (lit_at s.lits place) number
         → length after ≡ length seen → ((q : ℕ) → is_seen seen q ≡ true → is_seen after q ≡ true) → AreMarked s.lits after place (numbered s.clauses number)

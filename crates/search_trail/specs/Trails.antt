@@ -1,7 +1,7 @@
 -- The trail of a search: the literals that are taken to be true, in their order. Clauses count from 1.
 use Rattle.std.specs.Prelude.{◌≡◌, ℕ, ◌<◌, ℤ, pos, Option, Some, None, List, [], ◌∷◌, ◌++◌, length, take, slice_index_or, All, Contains}
 use Rattle.clause_base.specs.Literals.{is_in}
-use Rattle.clause_base.specs.Formulas.{IsOver}
+use Rattle.clause_base.specs.Formulas.{IsClauseWithin}
 use Rattle.clause_base.specs.Novelty.{IsApart}
 use Rattle.clause_base.specs.Teaching.{AllButNegated}
 use Rattle.refutation_check.specs.Following.{IsNumber, numbered}
@@ -52,8 +52,8 @@ pub record AreStarts (starts : List ℕ) (size : ℕ) : Type 0 where
 
 -- what a trail keeps true
 pub record IsTrail (vars : ℕ) (clauses : List (List ℤ)) (lits : List ℤ) (reasons : List (Option ℕ)) (starts : List ℕ) : Type 0 where
-  pub over : All (IsOver vars) clauses
-  pub small : IsOver vars lits
+  pub within : All (IsClauseWithin vars) clauses
+  pub small : IsClauseWithin vars lits
   pub once : IsOnce lits
   pub reasoned : AreReasoned clauses lits reasons starts
   pub levels : AreStarts starts (length lits)

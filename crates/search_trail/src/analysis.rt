@@ -1,3 +1,5 @@
+//! The clause that is learnt from a conflict, with its hints and the level to go back to.
+
 ghost use Rattle.std.specs.Prelude.{◌≡◌, ◌<◌, ◌≤◌, ℕ, [], length, true, neg_ℤ, IfOk, All};
 ghost use Rattle.clause_base.specs.Literals.{is_in};
 ghost use Rattle.clause_base.specs.Teaching.{Teaches};

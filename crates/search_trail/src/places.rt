@@ -80,7 +80,7 @@ impl Places {
 
     /// Puts the literal behind all others. Want of memory changes nothing.
     pub(crate) fn push(&mut self, lit: Lit) -> Result<(), AllocError>
-        requires over { nat_abs lit ≤ self.old.vars }
+        requires within { nat_abs lit ≤ self.old.vars }
         requires fresh { is_in self.old.lits lit ≡ false }
         ensures vars { self.new.vars ≡ self.old.vars }
         ensures lits { OnOk result (self.new.lits ≡ self.old.lits ++ lit ∷ []) }

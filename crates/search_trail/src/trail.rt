@@ -1,6 +1,8 @@
+//! The trail of a search.
+
 ghost use Rattle.std.specs.Prelude.{◌≡◌, ◌<◌, ◌≤◌, ◌+◌, ◌*◌, ℕ, ℤ, Some, None, [], ◌∷◌, ◌++◌, take, length, slice_index_or, false, true, neg_ℤ, nat_abs, OnOk, OnErr, IfOk, IfSome, IfNone, Contains};
 ghost use Rattle.clause_base.specs.Literals.{is_in, IsLiteral};
-ghost use Rattle.clause_base.specs.Formulas.{IsOver};
+ghost use Rattle.clause_base.specs.Formulas.{IsClauseWithin};
 ghost use Rattle.refutation_check.specs.Following.{IsNumber, numbered};
 ghost use Rattle.search_trail.specs.Trails.{AreStarts, IsOnce, IsReason, IsSearch, lit_at, reason_at, start_at, nothing_known, with_clause, with_decision, with_implied, back_at};
 
@@ -66,7 +68,7 @@ impl Trail {
     pub fn clause(&self, number: usize) -> &[Lit]
         requires { IsNumber self.now.clauses number }
         ensures same { result.now ≡ numbered self.now.clauses number }
-        ensures over { IsOver self.now.vars result.now }
+        ensures within { IsClauseWithin self.now.vars result.now }
         ensures search { IsSearch self.now }
     {
         self.clauses.clause(number - 1)
@@ -126,7 +128,7 @@ impl Trail {
 
     /// Adds a clause. Want of memory changes nothing.
     pub fn add(&mut self, lits: &[Lit]) -> Result<(), AllocError>
-        requires { IsOver self.old.vars lits.now }
+        requires { IsClauseWithin self.old.vars lits.now }
         ensures added { OnOk result (self.new ≡ with_clause self.old lits.now) }
         ensures kept { OnErr result (self.new ≡ self.old) }
     {
@@ -135,7 +137,7 @@ impl Trail {
 
     /// Begins a level with this literal. Want of memory changes nothing.
     pub fn decide(&mut self, lit: Lit) -> Result<(), AllocError>
-        requires over { nat_abs lit ≤ self.old.vars }
+        requires within { nat_abs lit ≤ self.old.vars }
         requires unset { is_in self.old.lits lit ≡ false }
         requires unset_negated { is_in self.old.lits (neg_ℤ lit) ≡ false }
         ensures decided { OnOk result (self.new ≡ with_decision self.old lit) }
@@ -194,7 +196,7 @@ fn put(
     lit: Lit,
     reason: Option<usize>,
 ) -> Result<(), AllocError>
-    requires over { nat_abs lit ≤ places.old.vars }
+    requires within { nat_abs lit ≤ places.old.vars }
     requires unset { is_in places.old.lits lit ≡ false }
     ensures vars { places.new.vars ≡ places.old.vars }
     ensures lits { OnOk result (places.new.lits ≡ places.old.lits ++ lit ∷ []) }

@@ -6,7 +6,7 @@ use Rattle.probe_io.proofs.WrittenLemmas.{Appends-then, Appends-front, AppendsFr
 use Rattle.proof_sinks.specs.declared.lines.Said.{Said}
 use Rattle.proof_sinks.specs.Text.{line_text, text_of}
 use Rattle.proof_sinks.proofs.LineTexts.{text_more}
-use Rattle.solve_report.specs.Printing.{ArePrinted, IsQuiet}
+use Rattle.solve_report.specs.Printing.{ArePrinted, StaysQuiet}
 use Rattle.probe_io.proofs.Texts.{Front-is, Whole-is}
 
 -- the text with one line more
@@ -45,9 +45,9 @@ pub printed_live : {start now : Option (List ℕ)} {said : List Said} (kept whol
 printed_live {start} {now} {said} kept whole live printed = subst (λ w. ArePrinted start now said w) (whole_of kept whole live) printed
 
 -- while a printer takes lines, the count of faults is what it was
-pub quiet_live : {before now : ℕ} (kept whole : Bool) → (kept && whole) ≡ true → IsQuiet before now whole → now ≡ before
+pub quiet_live : {before now : ℕ} (kept whole : Bool) → (kept && whole) ≡ true → StaysQuiet before now whole → now ≡ before
 quiet_live kept whole live quiet = quiet.same (whole_of kept whole live)
 
 -- nothing is said of the count where a line was torn
-pub torn : (before now : ℕ) → IsQuiet before now false
+pub torn : (before now : ℕ) → StaysQuiet before now false
 torn before now = record { same = λ whole. absurd cc }

@@ -9,6 +9,7 @@ use Rattle.clause_base.specs.Literals.{IsRising}
 use Rattle.clause_base.specs.Formulas.{Clauses, IsFormula}
 use Rattle.clause_base.specs.Novelty.{HaveSame}
 use Rattle.clause_base.specs.Solving.{is_true_under, IsTrueUnder}
+use Rattle.clause_base.proofs.Rising.{not_self}
 use Rattle.conflict_solver.specs.Answering.{AreSolution}
 use Rattle.solve_report.specs.Report.{IsSortedClause, IsSortedForm}
 
@@ -30,9 +31,6 @@ in_none z has = let (k, lt, is) = has in absurd (omega (arith, lt))
 not_both : {P : Type 0} (x y : ℤ) → x <ℤ y → y <ℤ x → P
 not_both x y there back = let none : ⊥ = grind (arith, ints, there, back) in absurd none
 
-not_self : {P : Type 0} (x z : ℤ) → x ≡ z → x <ℤ z → P
-not_self x z same less = let none : ⊥ = grind (arith, ints, same, less) in absurd none
-
 one_head : (x y : ℤ) (xs ys : List ℤ) → IsRising (x ∷ xs) → IsRising (y ∷ ys) → HaveSame (x ∷ xs) (y ∷ ys) → x ≡ y
 one_head x y xs ys up down same = elim (in_cons y ys x (same.there 0 x (omega arith))) [
   | inl is ↦ sym is
@@ -44,7 +42,7 @@ one_head x y xs ys up down same = elim (in_cons y ys x (same.there 0 x (omega ar
 
 all_in_tail : (x y : ℤ) (xs ys : List ℤ) → x ≡ y → IsRising (x ∷ xs) → All (Contains (y ∷ ys)) (x ∷ xs) → All (Contains ys) xs
 all_in_tail x y xs ys heads up there k d lt = elim (in_cons y ys (get_or xs k d) (there (suc k) d (omega (arith, lt)))) [
-  | inl is ↦ not_self x (get_or xs k d) (heads ∙ is) (head_below x xs (get_or xs k d) up (Contains-get_or xs k d lt))
+  | inl is ↦ not_self (get_or xs k d) (subst (λ y. y <ℤ get_or xs k d) (heads ∙ is) (head_below x xs (get_or xs k d) up (Contains-get_or xs k d lt)))
   | inr has ↦ has
 ]
 
@@ -93,10 +91,10 @@ sorted_is_formula vars clauses sorted formula each =
     record {
       few_vars = formula.few_vars;
       few_clauses = subst (λ n. n < 2 ^ 60) size formula.few_clauses;
-      over = λ k d lt j e jt.
+      within = λ k d lt j e jt.
           let within : k < length clauses = subst (λ n. k < n) (sym size) lt in
           let here = AllZip-get_or IsSortedClause clauses sorted k d d each within in
-          All-contains (λ l. nat_abs l ≤ vars) (get_or clauses k d) (get_or (get_or sorted k d) j e) (formula.over k d within) (here.same.back j e jt);
+          All-contains (λ l. nat_abs l ≤ vars) (get_or clauses k d) (get_or (get_or sorted k d) j e) (formula.within k d within) (here.same.back j e jt);
     }
 
 true_in : (holds : ℤ → Bool) (clause sorted : List ℤ) → HaveSame clause sorted → IsTrueUnder holds sorted → IsTrueUnder holds clause

@@ -14,7 +14,7 @@ pub record ArePrinted (start now : Option (List ℕ)) (said : List Said) (whole 
   pub front : AppendsFront start now (text_of said)
 
 -- while whole lines are written, a count of faults is what it was
-pub record IsQuiet (before now : ℕ) (whole : Bool) : Type 0 where
+pub record StaysQuiet (before now : ℕ) (whole : Bool) : Type 0 where
   pub same : whole ≡ true → now ≡ before
 
 -- a printer: the name of the reference that it holds, the text and the count of faults that stood there when it was made,

@@ -10,8 +10,8 @@ use Rattle.proof_sinks.specs.declared.lines.Said.{Said}
 use Rattle.proof_sinks.specs.Text.{clause_text, text_of}
 use Rattle.conflict_solver.specs.declared.verdict.Verdict.{Verdict}
 use Rattle.conflict_solver.specs.declared.verdict.Verdict.TheVariants.{Values, Refuted, Undecided}
-use Rattle.conflict_solver.specs.Deriving.{AreDerived, IsProofSoFar, proof_of}
-use Rattle.conflict_solver.specs.Answering.{AreSolution, IsVerdict}
+use Rattle.conflict_solver.specs.Deriving.{IsProofSoFar}
+use Rattle.conflict_solver.specs.Answering.{AreSolution, IsAnswered}
 use Rattle.solve_report.specs.declared.ending.Ending.{Ending}
 use Rattle.solve_report.specs.declared.ending.Ending.TheVariants.{Decided, Undecided as Unfinished}
 
@@ -70,16 +70,15 @@ SolvesWhereValues formula (Values values) = AreSolution formula values.items
 SolvesWhereValues formula Refuted = Unit {0}
 SolvesWhereValues formula Undecided = Unit {0}
 
--- The text is a report on a search over the file's formula: its sorted form, the lines that were derived from that, and a
--- verdict that they bear out. Values solve the file's own formula.
+-- The text is a report on a search over the file's formula: its sorted form, the lines that answer that with a verdict, and
+-- the verdict. Values solve the file's own formula.
 pub record IsReport (file : Clauses) (budget : ℕ) (ending : Ending) (text : List ℕ) : Type 0 where
   pub formula : Clauses
   pub sorted : IsSortedForm file formula
-  pub lines : List (List ℤ × List ℕ)
+  pub said : List Said
   pub verdict : Verdict
-  pub whole : text ≡ header budget formula ++ (text_of (proof_of formula lines) ++ verdict_line verdict)
-  pub derived : AreDerived formula budget lines
-  pub verdict_holds : IsVerdict formula budget lines verdict
+  pub answered : IsAnswered formula budget said verdict
+  pub whole : text ≡ header budget formula ++ (text_of said ++ verdict_line verdict)
   pub solution : SolvesWhereValues file verdict
   pub ends : ending ≡ ending_of verdict
 

@@ -20,8 +20,10 @@ pub enum Ending {
 /// Why a report is not whole.
 #[derive(Clone, Copy, Debug, PartialEq, Eq, Error)]
 pub enum ReportFault {
+    /// A write failed: the count of faults of the sink of text rose. A front of the report was written.
     #[error("the report could not be written")]
     Write,
+    /// No memory was found. A front of the report was written, or nothing.
     #[error("out of memory")]
     NoMemory,
 }

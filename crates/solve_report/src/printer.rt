@@ -1,7 +1,7 @@
 //! A sink that prints the lines of a proof to a sink of text that it borrows.
 
 ghost use Rattle.std.specs.Prelude.{◌≡◌, true, [], Some};
-ghost use Rattle.solve_report.specs.Printing.{ArePrinted, IsQuiet, mark};
+ghost use Rattle.solve_report.specs.Printing.{ArePrinted, StaysQuiet, mark};
 
 use clause_base::Lit;
 use probe_io::Sink;
@@ -23,7 +23,7 @@ pub(crate) struct Printer<'a, K: Sink> {
 
 impl<'a, K: Sink> Model for Printer<'a, K> {
     ghost use Rattle.std.specs.Prelude.{◌&&◌};
-    ghost use Rattle.solve_report.specs.Printing.{PrinterView, ArePrinted, IsQuiet};
+    ghost use Rattle.solve_report.specs.Printing.{PrinterView, ArePrinted, StaysQuiet};
 
     ghost Value = { PrinterView };
 
@@ -37,7 +37,7 @@ impl<'a, K: Sink> Model for Printer<'a, K> {
     } };
 
     ghost invariant = { λ s. ArePrinted (K.written s.start.value) (K.written s.out.now) s.list.said s.is_whole
-        × IsQuiet (K.faults s.start.value) (K.faults s.out.now) s.is_whole };
+        × StaysQuiet (K.faults s.start.value) (K.faults s.out.now) s.is_whole };
 }
 
 impl<'a, K: Sink> Printer<'a, K> {
@@ -64,7 +64,7 @@ impl<'a, K: Sink> Printer<'a, K> {
         ensures same_reference { result.ghost_name ≡ self.entry.name }
         ensures printed { ArePrinted self.entry.start (K.written result.now) self.entry.said self.entry.live }
         ensures faults { K.faults result.now ≡ self.entry.faults }
-        ensures quiet { IsQuiet self.entry.faults_before (K.faults result.now) self.entry.live }
+        ensures quiet { StaysQuiet self.entry.faults_before (K.faults result.now) self.entry.live }
     {
         let Printer { out, .. } = self;
         out

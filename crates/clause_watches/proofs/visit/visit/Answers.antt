@@ -3,7 +3,7 @@ use Rattle.refutation_check.specs.Following.{IsNumber, numbered}
 use Rattle.search_trail.specs.Trails.{lit_at}
 use Rattle.clause_watches.specs.Listing.{pair_of, IsOther}
 use Rattle.clause_watches.specs.Watching.{HasGrown}
-use Rattle.clause_watches.specs.Visiting.{IsVisit, IsFree, IsSole}
+use Rattle.clause_watches.specs.Visiting.{IsVisit, IsReplacement, IsSole}
 use Rattle.clause_watches.proofs.Visits.{begins, head_here, grown_same, grown_implied, still_none, still_pair, moves, reason, implies}
 use Rattle.clause_watches.proofs.visit.visit.Goals as goal
 
@@ -44,7 +44,7 @@ loop-index-preserved-in-Continue-1 c =
     let v : IsVisit s w c.args.head c.negated-gone.result (c.loop-index.index - 1 + 1) = subst (λ i. IsVisit s w c.args.head c.negated-gone.result i) (omega (arith, c.loop-index-test.true)) c.loop-index.invariant.visit in
     let known : IsNumber s.clauses number = record { some = c.number-number.ensures.some; most = omega (arith, c.in-Some.ensures.known, c.number-number.ensures.some, v.paired) } in
     let watched : IsOther (pair_of w.pairs number) c.negated-gone.result c.in-Moves.other = subst (λ p. IsOther p c.negated-gone.result c.in-Moves.other) (sym (sym c.pair.ensures.same ∙ c.in-Some.is)) c.in-Moves.ensures.0 in
-    let free : IsFree s (numbered s.clauses number) c.in-Moves.other c.in-Moves.to = subst (λ cl. IsFree s cl c.in-Moves.other c.in-Moves.to) c.clause.ensures.same c.in-Moves.ensures.1 in
+    let free : IsReplacement s (numbered s.clauses number) c.in-Moves.other c.in-Moves.to = subst (λ cl. IsReplacement s cl c.in-Moves.other c.in-Moves.to) c.clause.ensures.same c.in-Moves.ensures.1 in
     let after = c.in_ok-shift-in-Moves.ensures in
     record {
       visit = moves s w c.args.head c.negated-gone.result (c.loop-index.index - 1) number v c.number-number.ensures.same c.clause.ensures.search.once known c.in-Moves.other watched c.in-Moves.to c.shift.new.self free

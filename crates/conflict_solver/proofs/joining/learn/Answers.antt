@@ -1,7 +1,7 @@
 use Rattle.std.proofs.Common.{◌≡◌, ◌+◌, neg_ℤ, false, [], ◌∷◌, ◌++◌, length, sym, ap, ◌∙◌, subst}
 use Rattle.std.proofs.lemmas.Result.{on_ok_weaker}
 use Rattle.clause_base.specs.Literals.{is_in}
-use Rattle.clause_base.specs.Formulas.{IsOver}
+use Rattle.clause_base.specs.Formulas.{IsClauseWithin}
 use Rattle.search_trail.specs.Trails.{IsReason, lit_at, with_implied, with_clause}
 use Rattle.search_trail.proofs.Jumps.{reason, unset}
 use Rattle.conflict_solver.proofs.Joins.{small, out_negated, learnt_joined, learnt_kept, on_both}
@@ -10,8 +10,8 @@ use Rattle.conflict_solver.proofs.joining.learn.Goals as goal
 pub join_learnt-requires-clause-some : goal.join_learnt-requires-clause-some
 join_learnt-requires-clause-some c = c.requires.asserting.some
 
-pub join_learnt-requires-clause-over : goal.join_learnt-requires-clause-over
-join_learnt-requires-clause-over c = subst (λ t. IsOver t.vars c.args.lits.now) (sym c.back_to.ensures.trail)
+pub join_learnt-requires-clause-within : goal.join_learnt-requires-clause-within
+join_learnt-requires-clause-within c = subst (λ t. IsClauseWithin t.vars c.args.lits.now) (sym c.back_to.ensures.trail)
     (small c.args.trail.now c.args.lits.now c.args.level c.back_to.ensures.search c.requires.learnt c.requires.asserting c.requires.jump c.requires.above)
 
 pub join_learnt-requires-clause-vars : goal.join_learnt-requires-clause-vars

@@ -1,6 +1,7 @@
 use Rattle.std.proofs.Common.{sym, subst}
+use Rattle.probe_io.proofs.CauseLemmas.{on_err}
 use Rattle.search_trail.specs.Learning.{IsAsserting}
-use Rattle.conflict_solver.proofs.Steps.{done_below, took_line, line_so_far, torn_so_far, on_err}
+use Rattle.conflict_solver.proofs.Steps.{done_below, took_line, line_so_far, torn_so_far}
 use Rattle.conflict_solver.proofs.solving.derive.Goals as goal
 
 pub returns-in_err-say_derived-clause-so_far : goal.returns-in_err-say_derived-clause-so_far

@@ -1,4 +1,5 @@
-use Rattle.conflict_solver.proofs.Steps.{given_more, given_torn, on_err}
+use Rattle.probe_io.proofs.CauseLemmas.{on_err}
+use Rattle.conflict_solver.proofs.Steps.{given_more, given_torn}
 use Rattle.conflict_solver.proofs.solving.give_all.Goals as goal
 
 pub returns-in_err-say_given-clause-front : goal.returns-in_err-say_given-clause-front

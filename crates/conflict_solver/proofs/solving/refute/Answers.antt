@@ -1,5 +1,6 @@
 use Rattle.std.proofs.Common.{ap, length}
-use Rattle.conflict_solver.proofs.Steps.{refuted, torn_refuted, on_err}
+use Rattle.probe_io.proofs.CauseLemmas.{on_err}
+use Rattle.conflict_solver.proofs.Steps.{refuted, torn_refuted}
 use Rattle.conflict_solver.proofs.solving.refute.Goals as goal
 
 pub returns-in_err-say_derived-clause-so_far : goal.returns-in_err-say_derived-clause-so_far

@@ -1,11 +1,11 @@
 use Rattle.std.proofs.Common.{◌+◌, ◌*◌, ◌-◌}
-use Rattle.clause_watches.specs.Watching.{AreKept, HasGrown}
+use Rattle.clause_watches.specs.Watching.{AreWatched, HasGrown}
 use Rattle.clause_watches.specs.Visiting.{watched_at}
 use Rattle.clause_watches.proofs.watches.Watches.propagate.Given as goal
 
 abbrev pub invariant-loop-self : goal.invariant-loop-self
 invariant-loop-self l = record {
-  kept : AreKept l.trail (watched_at l.self-inside.lists l.self-inside.head);
+  kept : AreWatched l.trail (watched_at l.self-inside.lists l.self-inside.head);
   grown : HasGrown l.fn.trail l.trail;
 }
 

@@ -10,7 +10,7 @@ pub invariant_of-self-2 : goal.invariant_of-self-2
 invariant_of-self-2 c =
     let fresh : is_in c.self.inside.lits.items c.args.lit ≡ false = subst (λ placed. is_in placed.lits c.args.lit ≡ false) (sym c.self.view_is) c.requires.fresh in
     let room : code_of c.args.lit < length c.self.inside.ranks.items = subst (λ n. code_of c.args.lit < n) (sym c.self.invariant.size)
-    (coded c.self.inside.vars c.args.lit (subst (λ placed. nat_abs c.args.lit ≤ placed.vars) (sym c.self.view_is) c.requires.over)) in
+    (coded c.self.inside.vars c.args.lit (subst (λ placed. nat_abs c.args.lit ≤ placed.vars) (sym c.self.view_is) c.requires.within)) in
     let made = c.in_ok-push.ensures.items in
     let size : c.len.result ≡ length c.self.inside.lits.items + 1 = c.len.ensures ∙ c.push.new.self.ok.0 ∙ ap length made ∙ length_push c.self.inside.lits.items c.args.lit in
     pushed c.self.inside.vars c.self.inside.ranks.items c.set_rank.new.ranks.items c.self.inside.lits.items c.push.new.self.items c.args.lit c.self.invariant c.len.result

@@ -11,7 +11,7 @@ invariant_of-self-2 c =
     c.in-Ok.ensures.items ∙ ap (λ s. s ++ c.len-start.result ∷ []) c.in_ok-reserve.ensures.items ∙ ap (λ n. starts ++ n ∷ []) c.len-start.ensures in
     decision_by c.self.inside.places.vars c.put.new.places.vars c.self.inside.clauses lits c.put.new.places.lits c.self.inside.reasons.items c.put.new.reasons.items starts c.push.new.self.items
     c.put.ensures.vars c.self.invariant c.args.lit c.in_ok-put.ensures.literal
-    (subst (λ s. nat_abs c.args.lit ≤ s.vars) (sym c.self.view_is) c.requires.over)
+    (subst (λ s. nat_abs c.args.lit ≤ s.vars) (sym c.self.view_is) c.requires.within)
     (subst (λ s. is_in s.lits c.args.lit ≡ false) (sym c.self.view_is) c.requires.unset)
     (subst (λ s. is_in s.lits (neg_ℤ c.args.lit) ≡ false) (sym c.self.view_is) c.requires.unset_negated)
     c.in_ok-put.ensures.lits c.in_ok-put.ensures.reasons put

@@ -1,5 +1,5 @@
 -- Text that is written item by item.
-use Rattle.std.proofs.Common.{◌≡◌, ℕ, suc, ◌<◌, ◌≤◌, List, [], ◌∷◌, ◌++◌, length, take, drop, get_or, flat_map, Option, Result, Ok, Err, OnOk, OnErr, sym, ◌∙◌, ap, append_assoc}
+use Rattle.std.proofs.Common.{◌≡◌, ℕ, ◌<◌, ◌≤◌, List, ◌++◌, length, take, get_or, flat_map, Option, Result, Ok, Err, OnOk, OnErr, sym, ap}
 use Rattle.std.proofs.lemmas.List.{take_all}
 use Rattle.probe_io.specs.Written.{Appends, AppendsFront}
 use Rattle.probe_io.proofs.Texts.{AppendsFront-text}

@@ -1,6 +1,6 @@
 -- A printer of lines: what was written, and the text before it.
 use Rattle.std.proofs.Common.{◌≡◌, ℕ, ◌+◌, ◌-◌, ◌^◌, ◌<◌, ◌≤◌, Bool, true, false, List, [], ◌∷◌, ◌++◌, length, take, drop, Option, None, Some, refl, sym, ◌∙◌, ap, subst, append_assoc, arith}
-use Rattle.std.proofs.lemmas.List.{append-nil, take-append-drop, take-append-le, take_all, length-append, length-take}
+use Rattle.std.proofs.lemmas.List.{take-append-drop, take-append-le, take_all, length-append, length-take}
 use Rattle.probe_io.specs.Written.{Appends, AppendsFront}
 use Rattle.proof_sinks.specs.declared.lines.Said.{Said}
 use Rattle.proof_sinks.specs.Sending.{SendsFront}

@@ -10,12 +10,9 @@ use crate::layers::{Layer, place_of};
 use cif_flatten::{Draw, Flat};
 use layer_map::Expr;
 use mask_region::Region;
-use plane_geom::Rect;
+use plane_geom::{RANGE, Rect};
 use std::alloc::{AllocError, Global};
 use std::marker::Model;
-
-/// The greatest distance of a shape's coordinate from 0, in mask units.
-const RANGE: i64 = 16_777_216;
 
 /// A layout on which expressions are evaluated. Contracts see its placed shapes.
 #[derive(Drop)]

@@ -1,6 +1,8 @@
 pub mod Counting
 pub mod Ends
+pub mod Lists
+pub mod Options
 pub mod Ranges
 pub mod Reaching
-pub mod Worked
 pub mod Turning
+pub mod Worked

@@ -65,7 +65,7 @@ turned-plus t p q = rw (turned_is t (plus p q), turned_is t p, turned_is t q) (t
 add-assoc : (a b c : ℤ) → (a +ℤ b) +ℤ c ≡ a +ℤ (b +ℤ c)
 add-assoc a b c = omega (arith, ints)
 
-plus-assoc : (p q r : Point) → plus (plus p q) r ≡ plus p (plus q r)
+pub plus-assoc : (p q r : Point) → plus (plus p q) r ≡ plus p (plus q r)
 plus-assoc p q r = λ i. record { x = add-assoc p.x q.x r.x i; y = add-assoc p.y q.y r.y i }
 
 -- First one place, then the next: the turns one after the other, and the first shift, turned by the next, with its own.

@@ -1,6 +1,6 @@
 -- Worked values of the definitions: each is computed, or an instance that holds beside one that is refused.
 use Rattle.std.proofs.Common.{◌≡◌, ℕ, Bool, true, false, ◌&&◌, List, [], ◌∷◌, refl, ap, arith}
-use Rattle.std.specs.Prelude.{ℤ, pos, negsuc}
+use Rattle.std.specs.Prelude.{ℤ, pos, negsuc, map, codes}
 use Rattle.std.proofs.lemmas.Bool.{false≢true}
 use Rattle.std.proofs.lemmas.Int.{ints}
 use Rattle.std.proofs.lemmas.List.Elements.{All-nil, All-cons, All-head}
@@ -12,7 +12,7 @@ use Rattle.plane_geom.specs.Bounds.{IsWithin, IsPointWithin, IsRectWithin}
 use Rattle.plane_geom.specs.Cells.{is_between, is_in_rect, is_in_rects, is_met, count_window, numbers}
 use Rattle.plane_geom.specs.Covering.{Figure, block, polygon, wire, figure_of, covers, moved_figure, IsWellFormed, IsRectIn, HoldsAround, IsReach}
 use Rattle.plane_geom.specs.Ends.{flips}
-use Rattle.plane_geom.specs.Names.{is_short}
+use Rattle.plane_geom.specs.Names.{is_short, is_name}
 use Rattle.plane_geom.specs.Placement.{shift, negate_x, negate_y, exchange, moved, placed, IsPlaceOf, IsShiftWithin}
 
 at : ℤ → ℤ → Point
@@ -327,3 +327,11 @@ no_name = refl
 
 small_letter : is_short (99 ∷ []) ≡ false
 small_letter = refl
+
+-- names of 64 and of 65 bytes
+lengths : map is_name (codes "0123456789012345678901234567890123456789012345678901234567890123" ∷ codes "01234567890123456789012345678901234567890123456789012345678901234" ∷ [] ∷ []) ≡ true ∷ false ∷ false ∷ []
+lengths = refl
+
+-- signs, a `#` first and within, a `;`, a byte above 126
+bytes_of_names : map is_name (codes "+*!():" ∷ codes "#a" ∷ codes "a#" ∷ codes "a;" ∷ (97 ∷ 127 ∷ []) ∷ []) ≡ true ∷ false ∷ true ∷ false ∷ false ∷ []
+bytes_of_names = refl

@@ -4,3 +4,4 @@ pub mod Covering
 pub mod Ends
 pub mod Names
 pub mod Placement
+pub mod Texts

@@ -8,16 +8,17 @@
 //! rectangle round it.
 //!
 //! All of the geometry stands on it: the reader of layouts, the cutting of shapes, regions, nets and defects cite
-//! its definitions, which are in `specs/`: `Bounds`, `Cells`, `Ends`, `Placement`, `Covering` and `Names`.
+//! its definitions, which are in `specs/`: `Bounds`, `Cells`, `Ends`, `Placement`, `Covering` and `Names`, and in `Texts`
+//! what readers of bytes share.
 #![tactic(auto)]
 
 mod names;
 mod places;
 mod shapes;
 
-pub use names::{Label, Short};
+pub use names::{Label, Short, is_name};
 pub use places::{Place, Turn, one_place};
-pub use shapes::{Point, Rect, Shape};
+pub use shapes::{Point, RANGE, Rect, Shape};
 
 #[cfg(test)]
 mod tests;

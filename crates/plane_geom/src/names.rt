@@ -1,6 +1,8 @@
+//! The names of layers, labels and supplies.
+
 ghost use Rattle.std.specs.Prelude.{◌≡◌, true, IfOk, if◌then◌else◌};
 ghost use Rattle.std.specs.List.{list_all};
-ghost use Rattle.plane_geom.specs.Names.{is_short_byte, is_short};
+ghost use Rattle.plane_geom.specs.Names.{is_short_byte, is_short, is_name_byte, is_name as is_name_lem};
 
 use std::alloc::{AllocError, Global};
 use std::marker::Model;
@@ -66,6 +68,29 @@ fn is_plain(text: &[u8]) -> bool
 {
     text.iter()
         .all(|b| b.is_ascii_digit() || b.is_ascii_uppercase())
+}
+
+/// The longest name of a label or a supply, in bytes.
+const LONGEST_NAME: usize = 64;
+
+/// Whether a label or a supply may be called so: 1 to 64 bytes from `!` to `~` without `;`, and no `#` first.
+pub fn is_name(text: &[u8]) -> bool
+    ensures { result ≡ is_name_lem text.now }
+{
+    let Some(first) = text.first() else {
+        return false;
+    };
+    if *first == b'#' || text.len() > LONGEST_NAME {
+        return false;
+    }
+    are_name_bytes(text)
+}
+
+/// Whether all bytes are from `!` to `~` and none is a `;`.
+fn are_name_bytes(text: &[u8]) -> bool
+    ensures { result ≡ list_all is_name_byte text.now }
+{
+    text.iter().all(|b| b.is_ascii_graphic() && *b != b';')
 }
 
 /// A text, as a label or a supply is named. Contracts see its bytes.

@@ -1,3 +1,5 @@
+//! Turns and places, and where they take a point.
+
 ghost use Rattle.std.specs.Prelude.{◌≡◌, ℕ, ◌+◌, ◌^◌, ◌↔◌, IsSome, IfSome, if◌then◌else◌, neg_ℤ};
 ghost use Rattle.plane_geom.specs.Bounds.{IsWithin, IsPointWithin};
 ghost use Rattle.plane_geom.specs.Placement.{moved, turn_steps, placed, IsShiftWithin};
@@ -53,7 +55,8 @@ impl Turn {
 }
 
 impl Place {
-    /// First `self`, then `next`.
+    /// The place that moves a point as `self` does and then `next`. Neither may shift by over 2^60; the result shifts
+    /// by the sum of their shifts at most.
     pub fn then(self, next: Place) -> Place
         requires first { IsShiftWithin (2 ^ 60) self }
         requires second { IsShiftWithin (2 ^ 60) next }
@@ -71,7 +74,8 @@ impl Place {
         }
     }
 
-    /// Where the place takes the point, or `None` where that has a coordinate outside of -16,777,216 to 16,777,216.
+    /// Where the place takes the point, or `None` exactly where that has a coordinate over `RANGE` from 0. Neither the
+    /// shift nor a coordinate of the point may be over 2^60 from 0.
     pub fn apply(&self, p: Point) -> Option<Point>
         requires near { IsShiftWithin (2 ^ 60) self.now }
         requires point { IsPointWithin (2 ^ 60) p }

@@ -1,3 +1,5 @@
+//! Points, rectangles and shapes, and how far they reach.
+
 ghost use Rattle.std.specs.Prelude.{◌≡◌, ◌^◌, ◌<◌, ◌↔◌, IsTrue, length};
 ghost use Rattle.std.specs.List.{All};
 ghost use Rattle.plane_geom.specs.Bounds.{IsWithin, IsPointWithin};
@@ -11,7 +13,7 @@ pub struct Point {
 }
 
 /// The greatest distance of a coordinate of a layout from 0, in mask units.
-pub const RANGE: u64 = 16_777_216;
+pub const RANGE: i64 = 16_777_216;
 
 /// The cells with `x0 <= x < x1` and `y0 <= y < y1`: none where the corners are not in order, as `IsRect` says.
 #[derive(Clone, Copy, Debug, PartialEq, Eq)]
@@ -34,11 +36,11 @@ pub enum Shape {
 }
 
 impl Point {
-    /// Whether no coordinate is over 16,777,216 from 0.
+    /// Whether no coordinate is over `RANGE` from 0.
     pub(crate) fn is_in_range(&self) -> bool
         ensures { IsTrue result ↔ IsPointWithin (2 ^ 24) self.now }
     {
-        self.x.unsigned_abs() <= RANGE && self.y.unsigned_abs() <= RANGE
+        -RANGE <= self.x && self.x <= RANGE && -RANGE <= self.y && self.y <= RANGE
     }
 }
 
@@ -57,7 +59,8 @@ impl Rect {
 }
 
 impl Shape {
-    /// The least rectangle round all points, each widened by `half` for a wire.
+    /// The least rectangle round all corners and points, for a wire with `half` to each side of them. The shape is well
+    /// formed, and no coordinate of it is over 2^60 from 0.
     pub fn reach(&self) -> Rect
         requires formed { IsWellFormed (figure_of self.now) }
         requires within { IsFigureWithin (2 ^ 60) (figure_of self.now) }

@@ -1,3 +1,5 @@
+//! Names, places and reaches.
+
 ghost use Rattle.std.specs.Prelude.{◌^◌, pos, IfOk};
 ghost use Rattle.std.specs.List.{All};
 ghost use Rattle.plane_geom.specs.Bounds.{IsPointWithin};

@@ -8,11 +8,8 @@ ghost use Rattle.plane_geom.specs.Covering.{polygon_covers, is_vertical, spans, 
 ghost use Rattle.std.specs.Int.{int_min, int_max};
 ghost use Rattle.shape_cut.specs.Slabs.{nearest, IsNext, AreCrossings, IsPaired, AreNotFalling};
 
-use plane_geom::{Point, Rect};
+use plane_geom::{Point, RANGE, Rect};
 use std::alloc::{AllocError, Global};
-
-/// The lowest row that a shape may reach, in mask units.
-const LOWEST: i64 = -16_777_216;
 
 /// Cuts a polygon slab by slab. A slab lies between two rows of corners that follow each other, so that the same edges
 /// span all of its rows.
@@ -25,7 +22,8 @@ pub(crate) fn cut_polygon(alloc: Global, points: &[Point]) -> Result<Vec<Rect>, 
 {
     let mut rects = Vec::new(alloc);
     let mut ends = Vec::new(alloc);
-    let mut y = LOWEST;
+    // No shape reaches below this row.
+    let mut y = -RANGE;
     while let Some(next) = next_row(points, y) {
         read_crossings(points, y, &mut ends)?;
         ends.sort_unstable();

@@ -3,11 +3,9 @@ ghost use Rattle.plane_geom.specs.Bounds.{IsWithin, IsRectWithin};
 ghost use Rattle.plane_geom.specs.Covering.{figure_of, IsFigureWithin, IsWellFormed};
 
 use crate::cut;
-use plane_geom::{Point, Rect, Shape};
+use plane_geom::{Point, RANGE, Rect, Shape};
 use std::alloc::{AllocError, Global};
 use std::test::Fail;
-
-const RANGE: u64 = 16_777_216;
 
 /// The rectangle with these corners.
 fn rect(x0: i64, y0: i64, x1: i64, y1: i64) -> Rect
@@ -20,7 +18,7 @@ fn rect(x0: i64, y0: i64, x1: i64, y1: i64) -> Rect
 fn is_far(z: i64) -> bool
     ensures { result ≡ false → IsWithin (2 ^ 24) z }
 {
-    z.unsigned_abs() > RANGE
+    z < -RANGE || RANGE < z
 }
 
 /// Whether no coordinate is over 16,777,216 from 0.

@@ -335,42 +335,42 @@ plain_end_again at word more w =
     let found = skip_end (word ++ more) (plain_end at word more w) in
     ap semicolon_at found ∙ ap (λ s. Some s) (skip_over is_gap w.second.back more w.second.second)
 
-steps : (total : ℕ) (b0 b1 b2 : List ℕ) (c : Command) → body_at total b0 ≡ Some (c, b1) → end_at c b1 ≡ Some b2 → command_at total b0 ≡ Some (c, b2)
+pub body_then_end : (total : ℕ) (b0 b1 b2 : List ℕ) (c : Command) → body_at total b0 ≡ Some (c, b1) → end_at c b1 ≡ Some b2 → command_at total b0 ≡ Some (c, b2)
 unfolding command_at
-steps total b0 b1 b2 c e1 e2 = rw (e1, e2) refl
+body_then_end total b0 b1 b2 c e1 e2 = rw (e1, e2) refl
 
 user_whole : (total at : ℕ) (text word more : List ℕ) → (command (user text) ⋅ end (user text)) at word → command_at total (word ++ more) ≡ Some (user text, skip is_gap more)
 unfolding end_at
 user_whole total at [] word more w = let form = w.first.form in cc
 user_whole total at (b ∷ bs) word more w =
     let same = regroup w more ∙ ap (λ s. s ++ (w.back ++ more)) w.first.whole ∙ ap (λ s. (b ∷ bs) ++ s) (lettered 59 w.second more) in
-    steps total _ _ _ (user (b ∷ bs)) (ap (body_at total) same ∙ user_again total b bs (w.second.back ++ more) w.first.form) (ap (λ s. Some s) (skip_over is_gap w.second.back more w.second.second))
+    body_then_end total _ _ _ (user (b ∷ bs)) (ap (body_at total) same ∙ user_again total b bs (w.second.back ++ more) w.first.form) (ap (λ s. Some s) (skip_over is_gap w.second.back more w.second.second))
 
 -- A command that is spelled with its end is read there, whatever follows.
 pub command_again : (total at : ℕ) (c : Command) (word more : List ℕ) → at + length (word ++ more) ≡ total → (command c ⋅ end c) at word → command_at total (word ++ more) ≡ Some (c, skip is_gap more)
 unfolding end_at
 command_again total at (box l w p d) word more h t =
     let q = parts_of total at word more h t in
-    steps total _ _ _ _ (ap (body_at total) q.regrouped ∙ box_again total at l w p d q.front (q.back ++ more) q.here q.first (plain_end _ q.back more q.second)) (plain_end_again _ q.back more q.second)
+    body_then_end total _ _ _ _ (ap (body_at total) q.regrouped ∙ box_again total at l w p d q.front (q.back ++ more) q.here q.first (plain_end _ q.back more q.second)) (plain_end_again _ q.back more q.second)
 command_again total at (polygon p) word more h t =
     let q = parts_of total at word more h t in
-    steps total _ _ _ _ (ap (body_at total) q.regrouped ∙ polygon_again total at p q.front (q.back ++ more) q.here q.first (plain_end _ q.back more q.second)) (plain_end_again _ q.back more q.second)
+    body_then_end total _ _ _ _ (ap (body_at total) q.regrouped ∙ polygon_again total at p q.front (q.back ++ more) q.here q.first (plain_end _ q.back more q.second)) (plain_end_again _ q.back more q.second)
 command_again total at (wire w p) word more h t =
     let q = parts_of total at word more h t in
-    steps total _ _ _ _ (ap (body_at total) q.regrouped ∙ wire_again total at w p q.front (q.back ++ more) q.here q.first (plain_end _ q.back more q.second)) (plain_end_again _ q.back more q.second)
+    body_then_end total _ _ _ _ (ap (body_at total) q.regrouped ∙ wire_again total at w p q.front (q.back ++ more) q.here q.first (plain_end _ q.back more q.second)) (plain_end_again _ q.back more q.second)
 command_again total at (layer name) word more h t =
     let q = parts_of total at word more h t in
-    steps total _ _ _ _ (ap (body_at total) q.regrouped ∙ layer_again total at name q.front (q.back ++ more) q.here q.first (plain_end _ q.back more q.second)) (plain_end_again _ q.back more q.second)
+    body_then_end total _ _ _ _ (ap (body_at total) q.regrouped ∙ layer_again total at name q.front (q.back ++ more) q.here q.first (plain_end _ q.back more q.second)) (plain_end_again _ q.back more q.second)
 command_again total at (call n ts) word more h t =
     let q = parts_of total at word more h t in
-    steps total _ _ _ _ (ap (body_at total) q.regrouped ∙ call_again total at n ts q.front (q.back ++ more) q.here q.first (plain_end _ q.back more q.second)) (plain_end_again _ q.back more q.second)
+    body_then_end total _ _ _ _ (ap (body_at total) q.regrouped ∙ call_again total at n ts q.front (q.back ++ more) q.here q.first (plain_end _ q.back more q.second)) (plain_end_again _ q.back more q.second)
 command_again total at (user text) word more h t = user_whole total at text word more t
 command_again total at comment word more h t =
     let q = parts_of total at word more h t in
-    steps total _ _ _ _ (ap (body_at total) q.regrouped ∙ comment_again total at q.front (q.back ++ more) q.first) (plain_end_again _ q.back more q.second)
+    body_then_end total _ _ _ _ (ap (body_at total) q.regrouped ∙ comment_again total at q.front (q.back ++ more) q.first) (plain_end_again _ q.back more q.second)
 command_again total at (start n s) word more h t =
     let q = parts_of total at word more h t in
-    steps total _ _ _ _ (ap (body_at total) q.regrouped ∙ start_again total at n s q.front (q.back ++ more) q.here q.first (plain_end _ q.back more q.second)) (plain_end_again _ q.back more q.second)
+    body_then_end total _ _ _ _ (ap (body_at total) q.regrouped ∙ start_again total at n s q.front (q.back ++ more) q.here q.first (plain_end _ q.back more q.second)) (plain_end_again _ q.back more q.second)
 command_again total at finish word more h t =
     let q = parts_of total at word more h t in
-    steps total _ _ _ _ (ap (body_at total) q.regrouped ∙ finish_again total at q.front (q.back ++ more) q.first) (plain_end_again _ q.back more q.second)
+    body_then_end total _ _ _ _ (ap (body_at total) q.regrouped ∙ finish_again total at q.front (q.back ++ more) q.first) (plain_end_again _ q.back more q.second)

@@ -1,18 +1,15 @@
 -- The next command is read exactly where one is spelled.
 use Rattle.std.proofs.Common.{◌≡◌, ℕ, ◌-◌, ◌≤◌, ◌==◌, List, [], ◌∷◌, length, Some, None, refl, sym, ap, ◌∙◌, arith}
+use Rattle.plane_geom.proofs.Options.{guarded}
 use Rattle.cif_grammar.specs.Words.{◌⋅◌, Takes, is_blank}
 use Rattle.cif_grammar.specs.Grammar.{Command, box, polygon, wire, layer, call, user, comment, start, finish, command, end, is_gap}
 use Rattle.cif_grammar.specs.Readers.{skip, body_at, semicolon_at, end_at, command_at}
-use Rattle.cif_grammar.proofs.Options.{guarded}
+use Rattle.cif_grammar.proofs.Again.{body_then_end}
 use Rattle.cif_grammar.proofs.Runs.{parted, skip_stays}
 use Rattle.cif_grammar.proofs.Walking.{command_takes, command_again}
 
-both : (total : ℕ) (bytes behind rest : List ℕ) (c : Command) → body_at total bytes ≡ Some (c, behind) → end_at c behind ≡ Some rest → command_at total bytes ≡ Some (c, rest)
-unfolding command_at
-both total bytes behind rest c e f = rw (e, f) refl
-
 pub found : (total : ℕ) (bytes behind rest : List ℕ) (c : Command) → body_at total bytes ≡ Some (c, behind) → end_at c behind ≡ Some rest → length bytes ≤ total → Takes (command c ⋅ end c) (total - length bytes) bytes rest
-found total bytes behind rest c e f h = command_takes total _ bytes c rest (omega arith) (both total bytes behind rest c e f)
+found total bytes behind rest c e f h = command_takes total _ bytes c rest (omega arith) (body_then_end total bytes behind rest c e f)
 
 none_spelled : (total : ℕ) (bytes : List ℕ) → command_at total bytes ≡ None → length bytes ≤ total → (c : Command) (rest : List ℕ) → Takes (command c ⋅ end c) (total - length bytes) bytes rest → ⊥
 none_spelled total bytes e h c rest t =

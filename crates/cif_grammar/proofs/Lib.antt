@@ -3,7 +3,6 @@ pub mod Exact
 pub mod Joins
 pub mod Nesting
 pub mod Numbers
-pub mod Options
 pub mod Points
 pub mod Repeats
 pub mod Rows

@@ -2,9 +2,9 @@
 use Rattle.std.proofs.Common.{◌≡◌, ℕ, ◌+◌, ◌-◌, ◌≤◌, ◌==◌, Bool, true, false, cond, List, [], ◌∷◌, ◌++◌, Option, Some, refl, sym, ap, ◌∙◌, subst, arith}
 use Rattle.std.proofs.lemmas.Bool.{eqb-true, eqb-false, eq-eqb, ne_eqb}
 use Rattle.std.proofs.lemmas.List.Sums.{sum_by-cons}
+use Rattle.std.proofs.lemmas.Option.{same_Some}
 use Rattle.cif_grammar.specs.Grammar.{opened, closed}
 use Rattle.cif_grammar.specs.Readers.{closing}
-use Rattle.cif_grammar.proofs.Options.{some_is}
 
 opened_more : (b : ℕ) (bs : List ℕ) → opened (b ∷ bs) ≡ cond (b == 40) 1 0 + opened bs
 opened_more b bs = sum_by-cons (λ b. cond (b == 40) 1 0) b bs
@@ -83,7 +83,7 @@ closes_more b up down outer inner bs rest byte e c = record {
 
 closing_case : (b : ℕ) (bs rest : List ℕ) (depth : ℕ) (t u v : Bool) → (b == 40) ≡ t → (b == 41) ≡ u → (depth == 0) ≡ v → ((depth : ℕ) → closing depth bs ≡ Some rest → Closes depth bs rest) → cond {A = Option (List ℕ)} t (closing (depth + 1) bs) (cond u (cond v (Some bs) (closing (depth - 1) bs)) (closing depth bs)) ≡ Some rest → Closes depth (b ∷ bs) rest
 closing_case b bs rest depth true u v e f g ih h = closes_more b 1 0 depth (depth + 1) bs rest (opener b e) (omega arith) (ih (depth + 1) h)
-closing_case b bs rest depth false true true e f g ih h = subst (λ d. Closes d (b ∷ bs) rest) (sym (eqb-true depth 0 g)) (at_level bs rest b (eqb-true b 41 f) (some_is bs rest h))
+closing_case b bs rest depth false true true e f g ih h = subst (λ d. Closes d (b ∷ bs) rest) (sym (eqb-true depth 0 g)) (at_level bs rest b (eqb-true b 41 f) (same_Some bs rest h))
 closing_case b bs rest depth false true false e f g ih h =
     let deep = eqb-false depth 0 g in
     closes_more b 0 1 depth (depth - 1) bs rest (closer b f) (omega arith) (ih (depth - 1) h)

@@ -5,13 +5,15 @@ use Rattle.std.specs.Char.{is_ascii_digit}
 use Rattle.std.specs.Str.Parse.{digits_value}
 use Rattle.std.proofs.lemmas.Bool.{eqb-true, eqb-false, ne_eqb, and_parts}
 use Rattle.std.proofs.lemmas.Bool.Decides.{nat_tests}
+use Rattle.std.proofs.lemmas.Option.{same_Some}
+use Rattle.plane_geom.specs.Texts.{◌>>=◌}
+use Rattle.plane_geom.proofs.Options.{bind_some}
 use Rattle.cif_grammar.specs.declared.spelled.Number.{Number}
 use Rattle.cif_grammar.specs.declared.spelled.Signed.{Signed}
 use Rattle.cif_grammar.specs.declared.spelled.Spot.{Spot}
 use Rattle.cif_grammar.specs.Words.{◌⋅◌, Takes, Digits, is_blank, is_sep, limit}
 use Rattle.cif_grammar.specs.Grammar.{integer, sign, signed, point, next, next_point}
-use Rattle.cif_grammar.specs.Readers.{◌>>=◌, skip, behind, digits_at, integer_at, sized_at, signed_in, signed_at, point_at, next_at, next_point_at, is_text}
-use Rattle.cif_grammar.proofs.Options.{bind_some, some_is}
+use Rattle.cif_grammar.specs.Readers.{skip, behind, digits_at, integer_at, sized_at, signed_in, signed_at, point_at, next_at, next_point_at, is_text}
 use Rattle.cif_grammar.proofs.Runs.{begins, parted, skip_run, len_run, take_run, drop_run}
 use Rattle.cif_grammar.proofs.Numbers.{own}
 use Rattle.cif_grammar.proofs.Joins.{takes_then, then_at, run_takes, one_takes, byte_takes, nothing_takes, parts_of, one_again, one_begins}
@@ -45,7 +47,7 @@ digits_read total at bytes false y e h got =
     let p = parted is_ascii_digit bytes in
     let some : 0 < length p.run = omega (arith, eqb-false _ 0 e, p.size) in
     let value : min (digits_value 10 (take (prefix_len is_ascii_digit bytes) bytes)) (limit + 1) ≡ min (digits_value 10 p.run) (limit + 1) = ap (λ ds. min (digits_value 10 ds) (limit + 1)) p.taken in
-    subst (λ (z : Number × List ℕ). Takes (Digits z.0) at bytes z.1) (some_is _ y got) (record {
+    subst (λ (z : Number × List ℕ). Takes (Digits z.0) at bytes z.1) (same_Some _ y got) (record {
       front = p.run;
       spelled = record { some = some; digits = own.to p.run p.passes; value = value; place = omega (arith, h) };
       whole = p.whole;
@@ -65,11 +67,11 @@ signed_read : (total at b : ℕ) (bs : List ℕ) (t : Bool) (s : Signed) (rest :
 signed_read total at b bs true s rest e h got =
     let n = bind_some (digits_at total bs) _ (s, rest) got in
     let first = byte_takes b 45 bs at (eqb-true b 45 e) in
-    subst (λ (z : Signed × List ℕ). Takes (sign z.0.minus ⋅ Digits z.0.size) at (b ∷ bs) z.1) (some_is _ _ n.2) (takes_then first (digits_takes total _ bs n.0.0 n.0.1 (then_at total first h) n.1))
+    subst (λ (z : Signed × List ℕ). Takes (sign z.0.minus ⋅ Digits z.0.size) at (b ∷ bs) z.1) (same_Some _ _ n.2) (takes_then first (digits_takes total _ bs n.0.0 n.0.1 (then_at total first h) n.1))
 signed_read total at b bs false s rest e h got =
     let n = bind_some (digits_at total (b ∷ bs)) _ (s, rest) got in
     let first = nothing_takes at (b ∷ bs) in
-    subst (λ (z : Signed × List ℕ). Takes (sign z.0.minus ⋅ Digits z.0.size) at (b ∷ bs) z.1) (some_is _ _ n.2) (takes_then first (digits_takes total _ (b ∷ bs) n.0.0 n.0.1 (then_at total first h) n.1))
+    subst (λ (z : Signed × List ℕ). Takes (sign z.0.minus ⋅ Digits z.0.size) at (b ∷ bs) z.1) (same_Some _ _ n.2) (takes_then first (digits_takes total _ (b ∷ bs) n.0.0 n.0.1 (then_at total first h) n.1))
 
 signed_in_takes : (total at : ℕ) (bytes : List ℕ) (s : Signed) (rest : List ℕ) → at + length bytes ≡ total → signed_in total bytes ≡ Some (s, rest) → Takes (sign s.minus ⋅ Digits s.size) at bytes rest
 signed_in_takes total at [] s rest h got = cc
@@ -90,7 +92,7 @@ point_takes total at bytes p rest h got =
     let first = signed_takes total at bytes x.0.0 x.0.1 h x.1 in
     let second = one_takes is_sep (at + length first.front) x.0.1 sep.0 sep.1 in
     let third = signed_takes total _ sep.0 y.0.0 y.0.1 (then_at total second (then_at total first h)) y.1 in
-    subst (λ (z : Spot × List ℕ). Takes (point z.0) at bytes z.1) (some_is _ _ y.2) (takes_then first (takes_then second third))
+    subst (λ (z : Spot × List ℕ). Takes (point z.0) at bytes z.1) (same_Some _ _ y.2) (takes_then first (takes_then second third))
 
 pub next_takes : (total at : ℕ) (bytes : List ℕ) (n : Number) (rest : List ℕ) → at + length bytes ≡ total → next_at total bytes ≡ Some (n, rest) → Takes (next n) at bytes rest
 unfolding next_at

@@ -4,13 +4,14 @@ use Rattle.std.specs.List.{prefix_len, list_all}
 use Rattle.std.specs.Char.{is_ascii_digit}
 use Rattle.std.proofs.lemmas.Bool.{eqb-true, and_from}
 use Rattle.std.proofs.lemmas.List.{take-append-drop}
+use Rattle.std.proofs.lemmas.Option.{same_Some}
 use Rattle.plane_geom.specs.Names.{is_short, is_short_byte}
+use Rattle.plane_geom.proofs.Options.{bind_some, map_some, guarded}
 use Rattle.cif_grammar.specs.declared.spelled.Number.{Number}
 use Rattle.cif_grammar.specs.declared.spelled.Spot.{Spot}
 use Rattle.cif_grammar.specs.Words.{◌⋅◌, Takes, Literally, Run, is_blank}
 use Rattle.cif_grammar.specs.Grammar.{Transform, translate, mirror_x, mirror_y, rotate, Command, box, polygon, wire, layer, call, user, comment, start, finish, next, more_points, direction, scale, transform, transforms, Short, Matched, is_user, command, end, is_gap}
 use Rattle.cif_grammar.specs.Readers.{skip, and_more, repeated, or_none, integer_at, point_at, next_at, next_point_at, more_points_at, mirror_in, transform_in, transform_at, transforms_at, box_at, polygon_at, width_at, wire_at, layer_at, call_at, is_text, user_at, closing, comment_at, two_at, start_at, definition_in, definition_at, body_at, semicolon_at, end_at, command_at}
-use Rattle.cif_grammar.proofs.Options.{bind_some, map_some, guarded, some_is}
 use Rattle.cif_grammar.proofs.Runs.{parted, len_yes}
 use Rattle.cif_grammar.proofs.Joins.{takes_then, then_at, run_takes, byte_takes, nothing_takes}
 use Rattle.cif_grammar.proofs.Points.{digit_is_text, integer_takes, point_takes, next_takes, next_point_takes}
@@ -37,12 +38,12 @@ mirror_read at b letter bs back true y z m same e f h =
     let first = byte_takes letter 77 back at m in
     let run = run_takes is_blank (at + length first.front) back in
     let axis = byte_takes b 88 bs ((at + length first.front) + length run.front) (eqb-true b 88 e) in
-    subst (λ (z : Transform × List ℕ). Takes (transform z.0) at (letter ∷ back) z.1) (some_is _ z h) (takes_then first (takes_then run (subst (λ s. Takes (Literally (codes "X")) ((at + length first.front) + length run.front) s bs) (sym same) axis)))
+    subst (λ (z : Transform × List ℕ). Takes (transform z.0) at (letter ∷ back) z.1) (same_Some _ z h) (takes_then first (takes_then run (subst (λ s. Takes (Literally (codes "X")) ((at + length first.front) + length run.front) s bs) (sym same) axis)))
 mirror_read at b letter bs back false true z m same e f h =
     let first = byte_takes letter 77 back at m in
     let run = run_takes is_blank (at + length first.front) back in
     let axis = byte_takes b 89 bs ((at + length first.front) + length run.front) (eqb-true b 89 f) in
-    subst (λ (z : Transform × List ℕ). Takes (transform z.0) at (letter ∷ back) z.1) (some_is _ z h) (takes_then first (takes_then run (subst (λ s. Takes (Literally (codes "Y")) ((at + length first.front) + length run.front) s bs) (sym same) axis)))
+    subst (λ (z : Transform × List ℕ). Takes (transform z.0) at (letter ∷ back) z.1) (same_Some _ z h) (takes_then first (takes_then run (subst (λ s. Takes (Literally (codes "Y")) ((at + length first.front) + length run.front) s bs) (sym same) axis)))
 mirror_read at b letter bs back false false z m same e f h = cc
 
 mirror_takes : (at letter : ℕ) (back axis : List ℕ) (z : Transform × List ℕ) → letter ≡ 77 → skip is_blank back ≡ axis → mirror_in axis ≡ Some z → Takes (transform z.0) at (letter ∷ back) z.1
@@ -95,7 +96,7 @@ two_takes total at bytes s rest h got =
     let b = bind_some (next_at total a.0.1) _ (s, rest) a.2 in
     let first = next_takes total at bytes a.0.0 a.0.1 h a.1 in
     let second = next_takes total _ a.0.1 b.0.0 b.0.1 (then_at total first h) b.1 in
-    subst (λ (z : (Number × Number) × List ℕ). Takes (next z.0.0 ⋅ next z.0.1) at bytes z.1) (some_is _ _ b.2) (takes_then first second)
+    subst (λ (z : (Number × Number) × List ℕ). Takes (next z.0.0 ⋅ next z.0.1) at bytes z.1) (same_Some _ _ b.2) (takes_then first second)
 
 scale_takes : (total at : ℕ) (bytes : List ℕ) (o : Option ((Number × Number) × List ℕ)) → two_at total bytes ≡ o → at + length bytes ≡ total → Takes (scale (or_none bytes o).0) at bytes (or_none bytes o).1
 scale_takes total at bytes None e h = nothing_takes at bytes
@@ -115,7 +116,7 @@ box_takes total at b bs z e h got =
     let h3 = then_at total second h2 in
     let third = next_point_takes total _ w.0.1 c.0.0 c.0.1 h3 c.1 in
     let last = direction_takes total _ c.0.1 (next_point_at total c.0.1) refl (then_at total third h3) in
-    subst (λ (z : Command × List ℕ). Takes (command z.0) at (b ∷ bs) z.1) (some_is _ z c.2) (takes_then letter (takes_then first (takes_then second (takes_then third last))))
+    subst (λ (z : Command × List ℕ). Takes (command z.0) at (b ∷ bs) z.1) (same_Some _ z c.2) (takes_then letter (takes_then first (takes_then second (takes_then third last))))
 
 polygon_takes : (total at b : ℕ) (bs : List ℕ) (z : Command × List ℕ) → b ≡ 80 → at + length (b ∷ bs) ≡ total → polygon_at total bs ≡ Some z → Takes (command z.0) at (b ∷ bs) z.1
 unfolding polygon_at
@@ -125,7 +126,7 @@ polygon_takes total at b bs z e h got =
     let h1 = then_at total letter h in
     let first = point_takes total _ bs p.0.0 p.0.1 h1 p.1 in
     let last = more_points_takes total _ p.0.1 (then_at total first h1) in
-    subst (λ (z : Command × List ℕ). Takes (command z.0) at (b ∷ bs) z.1) (some_is _ z p.2) (takes_then letter (takes_then first last))
+    subst (λ (z : Command × List ℕ). Takes (command z.0) at (b ∷ bs) z.1) (same_Some _ z p.2) (takes_then letter (takes_then first last))
 
 wire_takes : (total at b : ℕ) (bs : List ℕ) (z : Command × List ℕ) → b ≡ 87 → at + length (b ∷ bs) ≡ total → wire_at total bs ≡ Some z → Takes (command z.0) at (b ∷ bs) z.1
 unfolding wire_at width_at
@@ -139,9 +140,9 @@ wire_takes total at b bs z e h got =
     let h2 = then_at total first h1 in
     let second = next_point_takes total _ w.0.1 p.0.0 p.0.1 h2 p.1 in
     let last = more_points_takes total _ p.0.1 (then_at total second h2) in
-    let same : (w.0.0, p.0.0, p.0.1) ≡ wide.0 = some_is _ _ p.2 in
+    let same : (w.0.0, p.0.0, p.0.1) ≡ wide.0 = same_Some _ _ p.2 in
     let whole = ap (λ (y : Number × Spot × List ℕ). Some (wire y.0 (record { first = y.1; others = (more_points_at total y.2).0 }), (more_points_at total y.2).1)) same ∙ wide.2 in
-    subst (λ (z : Command × List ℕ). Takes (command z.0) at (b ∷ bs) z.1) (some_is _ z whole) (takes_then letter (takes_then first (takes_then second last)))
+    subst (λ (z : Command × List ℕ). Takes (command z.0) at (b ∷ bs) z.1) (same_Some _ z whole) (takes_then letter (takes_then first (takes_then second last)))
 
 layer_takes : (total at b : ℕ) (bs : List ℕ) (z : Command × List ℕ) → b ≡ 76 → at + length (b ∷ bs) ≡ total → layer_at bs ≡ Some z → Takes (command z.0) at (b ∷ bs) z.1
 unfolding layer_at
@@ -161,7 +162,7 @@ call_takes total at b bs z e h got =
     let h1 = then_at total letter h in
     let first = integer_takes total _ bs n.0.0 n.0.1 h1 n.1 in
     let last = transforms_takes total _ n.0.1 (then_at total first h1) in
-    subst (λ (z : Command × List ℕ). Takes (command z.0) at (b ∷ bs) z.1) (some_is _ z n.2) (takes_then letter (takes_then first last))
+    subst (λ (z : Command × List ℕ). Takes (command z.0) at (b ∷ bs) z.1) (same_Some _ z n.2) (takes_then letter (takes_then first last))
 
 user_form : (b : ℕ) (bs : List ℕ) → is_ascii_digit b ≡ true → is_user (take (prefix_len is_text (b ∷ bs)) (b ∷ bs)) ≡ true
 user_form b bs e =
@@ -207,11 +208,11 @@ start_takes total at b d bs back z e f same h got =
     let h3 = then_at total second h2 in
     let third = integer_takes total _ back n.0.0 n.0.1 h3 n.1 in
     let last = scale_takes total _ n.0.1 (two_at total n.0.1) refl (then_at total third h3) in
-    subst (λ (z : Command × List ℕ). Takes (command z.0) at (b ∷ bs) z.1) (some_is _ z n.2) (takes_then letter (takes_then run (takes_then second (takes_then third last))))
+    subst (λ (z : Command × List ℕ). Takes (command z.0) at (b ∷ bs) z.1) (same_Some _ z n.2) (takes_then letter (takes_then run (takes_then second (takes_then third last))))
 
 definition_read : (total at b d : ℕ) (bs back : List ℕ) (t u : Bool) (z : Command × List ℕ) → b ≡ 68 → (d == 83) ≡ t → (d == 70) ≡ u → skip is_blank bs ≡ d ∷ back → at + length (b ∷ bs) ≡ total → cond {A = Option (Command × List ℕ)} t (start_at total back) (cond u (Some (finish, back)) None) ≡ Some z → Takes (command z.0) at (b ∷ bs) z.1
 definition_read total at b d bs back true u z e f g same h got = start_takes total at b d bs back z e (eqb-true d 83 f) same h got
-definition_read total at b d bs back false true z e f g same h got = subst (λ (z : Command × List ℕ). Takes (command z.0) at (b ∷ bs) z.1) (some_is _ z got) (finish_takes at b d bs back e (eqb-true d 70 g) same)
+definition_read total at b d bs back false true z e f g same h got = subst (λ (z : Command × List ℕ). Takes (command z.0) at (b ∷ bs) z.1) (same_Some _ z got) (finish_takes at b d bs back e (eqb-true d 70 g) same)
 definition_read total at b d bs back false false z e f g same h got = cc
 
 definition_in_takes : (total at b : ℕ) (bs back : List ℕ) (z : Command × List ℕ) → b ≡ 68 → skip is_blank bs ≡ back → at + length (b ∷ bs) ≡ total → definition_in total back ≡ Some z → Takes (command z.0) at (b ∷ bs) z.1
@@ -269,4 +270,4 @@ command_takes total at bytes c rest h got =
     let body = bind_some (body_at total bytes) _ (c, rest) got in
     let behind = bind_some (end_at body.0.0 body.0.1) _ (c, rest) body.2 in
     let first = body_takes total at bytes body.0.0 body.0.1 h body.1 in
-    subst (λ (z : Command × List ℕ). Takes (command z.0 ⋅ end z.0) at bytes z.1) (some_is _ _ behind.2) (takes_then first (end_takes (at + length first.front) body.0.0 body.0.1 behind.0 behind.1))
+    subst (λ (z : Command × List ℕ). Takes (command z.0 ⋅ end z.0) at bytes z.1) (same_Some _ _ behind.2) (takes_then first (end_takes (at + length first.front) body.0.0 body.0.1 behind.0 behind.1))

@@ -1,11 +1,8 @@
 -- The first bytes that pass a test, and what stands behind them.
-use Rattle.std.proofs.Common.{◌≡◌, ℕ, suc, ◌+◌, Bool, true, false, List, [], ◌∷◌, ◌++◌, length, take, drop, refl, sym, ap, ◌∙◌, arith}
+use Rattle.std.proofs.Common.{◌≡◌, ℕ, suc, Bool, true, false, List, [], ◌∷◌, ◌++◌, length, take, drop, refl, sym, ap, ◌∙◌, one-add}
 use Rattle.std.specs.List.{prefix_len, list_all}
 use Rattle.std.proofs.lemmas.Bool.{and_parts, and_from}
 use Rattle.cif_grammar.specs.Readers.{skip}
-
-one_more : (n : ℕ) → 1 + n ≡ suc n
-one_more n = omega arith
 
 -- whether a first byte stands there and passes the test
 abbrev pub begins : (ℕ → Bool) → List ℕ → Bool
@@ -13,7 +10,7 @@ begins test [] = false
 begins test (b ∷ bs) = test b
 
 pub len_yes : (test : ℕ → Bool) (b : ℕ) (bs : List ℕ) → test b ≡ true → prefix_len test (b ∷ bs) ≡ suc (prefix_len test bs)
-len_yes test b bs e = rw e (one_more (prefix_len test bs))
+len_yes test b bs e = rw e (one-add (prefix_len test bs))
 
 pub len_no : (test : ℕ → Bool) (b : ℕ) (bs : List ℕ) → test b ≡ false → prefix_len test (b ∷ bs) ≡ 0
 len_no test b bs e = rw e refl

@@ -3,13 +3,18 @@ use Rattle.std.proofs.Common.{◌≡◌, ℕ, ◌<◌, ◌≤◌, ◌==◌, Bool
 use Rattle.std.specs.List.{prefix_len}
 use Rattle.std.specs.Char.{is_ascii_digit}
 use Rattle.std.proofs.lemmas.List.{length-drop}
+use Rattle.plane_geom.proofs.Options.{bind_some, map_some, guarded}
 use Rattle.cif_grammar.specs.declared.spelled.Number.{Number}
 use Rattle.cif_grammar.specs.declared.spelled.Signed.{Signed}
 use Rattle.cif_grammar.specs.declared.spelled.Spot.{Spot}
 use Rattle.cif_grammar.specs.Words.{is_blank, is_sep}
 use Rattle.cif_grammar.specs.Grammar.{Transform, translate, mirror_x, mirror_y, rotate}
 use Rattle.cif_grammar.specs.Readers.{skip, behind, digits_at, sized_at, signed_in, signed_at, point_at, next_point_at, mirror_in, transform_in, transform_at}
-use Rattle.cif_grammar.proofs.Options.{bind_some, map_some, guarded, pair_is}
+
+pair_is : {A B : Type 0} (a c : A) (b d : B) → ◌≡◌ {A = Option (A × B)} (Some (a, b)) (Some (c, d)) → (a ≡ c) × (b ≡ d)
+pair_is {A} {B} a c b d h =
+    let same : ◌≡◌ {A = A × B} (a, b) (c, d) = cc in
+    (ap (λ (x : A × B). x.0) same, ap (λ (x : A × B). x.1) same)
 
 pub skip_shorter : (test : ℕ → Bool) (bytes : List ℕ) → length (skip test bytes) ≤ length bytes
 skip_shorter test bytes = omega (arith, length-drop (prefix_len test bytes) bytes)

@@ -5,10 +5,12 @@ use Rattle.std.specs.Char.{is_ascii_digit}
 use Rattle.std.proofs.lemmas.Bool.{cases_lt, or_parts}
 use Rattle.std.proofs.lemmas.Bool.Decides.{nat_tests}
 use Rattle.std.proofs.lemmas.List.{length-append}
+use Rattle.std.proofs.lemmas.Option.{same_Some}
+use Rattle.plane_geom.specs.Texts.{◌>>=◌}
+use Rattle.plane_geom.proofs.Options.{bind_some, guarded}
 use Rattle.cif_grammar.specs.Words.{◌⋅◌, Takes, Literally, Run, is_blank}
 use Rattle.cif_grammar.specs.Grammar.{Command, box, polygon, wire, layer, call, user, comment, start, finish, command, end, is_gap, Placed, may_stand, Stands, Items, Spells, Longest}
-use Rattle.cif_grammar.specs.Readers.{◌>>=◌, skip, body_at, command_at}
-use Rattle.cif_grammar.proofs.Options.{bind_some, guarded, some_is}
+use Rattle.cif_grammar.specs.Readers.{skip, body_at, command_at}
 use Rattle.cif_grammar.proofs.Shorter.{skip_shorter}
 use Rattle.cif_grammar.proofs.Runs.{begins, skip_over, skip_stays}
 use Rattle.cif_grammar.proofs.Joins.{takes_then, then_at, run_takes, parts_of}
@@ -23,7 +25,7 @@ marked at word w = omega (arith, ap length w.whole, length-append w.front w.back
 plainly_marked : (at : ℕ) (word : List ℕ) → (Run is_blank ⋅ Literally (codes ";") ⋅ Run is_gap) at word → 0 < length word
 plainly_marked at word w = omega (arith, ap length w.whole, length-append w.front w.back, marked (at + length w.front) w.back w.second)
 
-end_some : (c : Command) (at : ℕ) (word : List ℕ) → end c at word → 0 < length word
+pub end_some : (c : Command) (at : ℕ) (word : List ℕ) → end c at word → 0 < length word
 end_some (box l w p d) at word e = plainly_marked at word e
 end_some (polygon p) at word e = plainly_marked at word e
 end_some (wire w p) at word e = plainly_marked at word e
@@ -105,7 +107,7 @@ stands_takes : (before : List Placed) (c : Placed) (at : ℕ) (bytes rest : List
 stands_takes before c at bytes rest place scope t = record { front = t.front; spelled = record { place = place; scope = scope; word = t.spelled }; whole = t.whole }
 
 pub walk_takes : (n total : ℕ) (text : List ℕ) (commands : List Placed) (rest : List ℕ) → length text ≡ total → walk n total text ≡ Some (commands, rest) → Takes (Items commands) 0 text rest
-walk_takes zero total text commands rest h w = subst (λ (z : List Placed × List ℕ). Takes (Items z.0) 0 text z.1) (some_is _ _ w) (run_takes is_gap 0 text)
+walk_takes zero total text commands rest h w = subst (λ (z : List Placed × List ℕ). Takes (Items z.0) 0 text z.1) (same_Some _ _ w) (run_takes is_gap 0 text)
 walk_takes (suc n) total text commands rest h w =
     let walked = bind_some (walk n total text) (and_next total) (commands, rest) w in
     let c = bind_some (command_at total walked.0.1) _ (commands, rest) walked.2 in
@@ -165,7 +167,7 @@ earlier (suc m) k total text last h small w = earlier_case m k total text last h
 leaves_less : (m k total : ℕ) (text : List ℕ) (last walked : List Placed × List ℕ) → length text ≡ total → k ≤ m → walk m total text ≡ Some last → walk k total text ≡ Some walked → length last.1 + m ≤ length walked.1 + k
 leaves_less m k total text last walked h small w v =
     let e = earlier m k total text last h small w in
-    let same = some_is _ _ (sym e.is ∙ v) in
+    let same = same_Some _ _ (sym e.is ∙ v) in
     omega (arith, e.more, ap (λ (z : List Placed × List ℕ). length z.1) same)
 
 -- A walk that is stuck is the longest.
@@ -216,7 +218,7 @@ longest_one text c d front rest before behind l k =
     let v = walk_again d text before behind k.items k.whole in
     let left : length (skip is_gap rest) ≡ length (skip is_gap behind) = ap (λ s. length (skip is_gap s)) parts.1 in
     let count = same_walks (length c) (length d) (length text) text _ _ refl w v left (cases_lt (length c) (length d)) in
-    let same = some_is _ _ (sym w ∙ ap (λ n. walk n (length text) text) count ∙ v) in
+    let same = same_Some _ _ (sym w ∙ ap (λ n. walk n (length text) text) count ∙ v) in
     (ap (λ (z : List Placed × List ℕ). z.0) same, parts.0, parts.1)
 
 -- The front before the `E` of a whole text is the longest.

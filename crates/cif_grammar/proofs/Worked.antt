@@ -7,7 +7,7 @@ use Rattle.cif_grammar.specs.declared.spelled.Spot.{Spot}
 use Rattle.cif_grammar.specs.Words.{Takes, One, ◌⋅◌, is_blank, is_sep, limit}
 use Rattle.cif_grammar.specs.Grammar.{signed, translate, mirror_x, mirror_y, rotate, Command, box, polygon, wire, layer, call, user, comment, start, finish, Matched, command, end, Placed, is_inside, may_stand, Items, Spells, Longest}
 use Rattle.cif_grammar.specs.Readers.{digits_at, integer_at, signed_at, point_at, next_at, next_point_at, more_points_at, transform_at, transforms_at, box_at, polygon_at, width_at, wire_at, layer_at, call_at, user_at, comment_at, two_at, start_at, definition_at, body_at, end_at, command_at}
-use Rattle.cif_grammar.proofs.Walking.{walk, walk_takes, command_takes, command_again, longest_here, longest_one, spells_longest}
+use Rattle.cif_grammar.proofs.Walking.{walk, command_takes, command_again, longest_here, longest_one, spells_longest}
 
 -- what a whole text begins with
 abbrev first : List ℕ → Option (Command × List ℕ)

@@ -5,16 +5,12 @@ use Rattle.std.specs.List.{prefix_len}
 use Rattle.std.specs.Char.{is_ascii_digit}
 use Rattle.std.specs.Str.Parse.{digits_value}
 use Rattle.plane_geom.specs.Names.{is_short, is_short_byte}
+use Rattle.plane_geom.specs.Texts.{◌>>=◌}
 use Rattle.cif_grammar.specs.declared.spelled.Number.{Number}
 use Rattle.cif_grammar.specs.declared.spelled.Signed.{Signed}
 use Rattle.cif_grammar.specs.declared.spelled.Spot.{Spot}
 use Rattle.cif_grammar.specs.Words.{is_blank, is_sep, limit}
 use Rattle.cif_grammar.specs.Grammar.{Transform, translate, mirror_x, mirror_y, rotate, Command, box, polygon, wire, layer, call, user, comment, start, finish, is_gap}
-
-infixl 10 ◌>>=◌
-abbrev pub ◌>>=◌ : {A B : Type 0} → Option A → (A → Option B) → Option B
-None >>= f = None
-(Some x) >>= f = f x
 
 -- what stands behind all first bytes that pass a test
 abbrev pub skip : (ℕ → Bool) → List ℕ → List ℕ

@@ -233,8 +233,12 @@ fn after_end<'a>(command: &Command<'_>, bytes: &'a [u8]) -> Option<&'a [u8]>
     }
 }
 
-/// The command that the last bytes of a text of `total` bytes begin with, and the bytes behind its end: behind its `;`
-/// and all blanks and semicolons that follow. None where no command with its end stands there.
+/// The command that `bytes` begin with, and the bytes behind its end: behind its `;` and all blanks and semicolons that
+/// follow. `None` exactly where no command with its end stands there.
+///
+/// `bytes` are the last ones of a text of `total` bytes, and places are counted from where that text begins. Where
+/// `total` is less than the length of `bytes`, a place that would lie before the text is 0. The only error is want of
+/// memory for lists of points and transformations.
 #[tactic(auto, unfolding(crate::specs::Readers::command_at))]
 pub fn next_command<'a>(
     alloc: Global,

@@ -23,4 +23,4 @@ mod words;
 pub use command::next_command;
 pub use laws::one_spelling;
 pub use spelled::{Command, Number, Path, Signed, Spot, Transformation};
-pub use words::{after_blanks, after_gaps};
+pub use words::{LIMIT, after_blanks, after_gaps, value_of_digits};

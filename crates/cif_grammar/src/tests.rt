@@ -1,3 +1,5 @@
+//! Commands that are read, and bytes that begin with none.
+
 use crate::{Command, Number, Signed, Spot, Transformation, next_command};
 use std::alloc::{AllocError, Global};
 use std::test::Fail;

@@ -14,7 +14,7 @@ ghost use Rattle.cif_grammar.specs.Readers.{skip, behind, digits_at, integer_at,
 use crate::spelled::{Number, Signed, Spot};
 
 /// The greatest number of a CIF text.
-const LIMIT: u64 = 2_147_483_647;
+pub const LIMIT: u64 = 2_147_483_647;
 
 /// Whether it is neither a digit, an upper-case letter, `-`, `(`, `)` nor `;`.
 fn is_blank(byte: u8) -> bool
@@ -106,9 +106,9 @@ fn after_sep(bytes: &[u8]) -> Option<&[u8]>
     if is_sep(*first) { Some(rest) } else { None }
 }
 
-/// The value of digits, up to the first number over the limit.
+/// The value of decimal digits. The first number over the greatest one of a CIF text stands for all that are greater.
 #[tactic(auto, unfolding(crate::specs::Words::limit))]
-fn value_of(digits: &[u8]) -> u64
+pub fn value_of_digits(digits: &[u8]) -> u64
     requires { AllDigits 10 digits.now }
     ensures { result ≡ min (digits_value 10 digits.now) (limit + 1) }
 {
@@ -130,7 +130,7 @@ fn digits_of(total: usize, bytes: &[u8]) -> Option<(Number, &[u8])>
     }
     let number = Number {
         at: total.saturating_sub(bytes.len()),
-        value: value_of(&bytes[..count]),
+        value: value_of_digits(&bytes[..count]),
     };
     Some((number, &bytes[count..]))
 }

@@ -5,9 +5,10 @@ use Rattle.std.specs.Option.{option_or}
 use Rattle.std.proofs.lemmas.Bool.{cases_lt}
 use Rattle.std.proofs.lemmas.List.{length-append}
 use Rattle.plane_geom.proofs.Turning.{IsPlaceOf-unique}
+use Rattle.std.proofs.lemmas.Option.{same_Some}
+use Rattle.plane_geom.proofs.Options.{bind_some, guarded}
 use Rattle.cif_grammar.specs.Grammar.{Placed, is_inside, may_stand, Longest, is_gap}
 use Rattle.cif_grammar.specs.Readers.{skip, command_at}
-use Rattle.cif_grammar.proofs.Options.{bind_some, guarded, some_is}
 use Rattle.cif_grammar.proofs.Shorter.{skip_shorter}
 use Rattle.cif_grammar.proofs.Walking.{walk, and_next, walk_takes, walk_again, command_shorter, longest_one, spells_longest, one_spelling}
 use Rattle.cif_reader.specs.declared.refusal.CifRefusal.{CifRefusal}
@@ -52,7 +53,7 @@ fewer (suc m) n total text last h small = before_case m n total text last h (λ 
 fine_fewer : (m n : ℕ) (text : List ℕ) (last walked : List Placed × List ℕ) → walk m (length text) text ≡ Some last → walk n (length text) text ≡ Some walked → n ≤ m → first_fault last.0 ≡ None → first_fault walked.0 ≡ None
 fine_fewer m n text last walked h e small none =
     let b = fewer m n (length text) text last h small in
-    ap (λ (z : List Placed × List ℕ). first_fault z.0) (some_is _ _ (sym e ∙ b.is)) ∙ b.fine none
+    ap (λ (z : List Placed × List ℕ). first_fault z.0) (same_Some _ _ (sym e ∙ b.is)) ∙ b.fine none
 
 -- ---- the first command at fault
 
@@ -90,7 +91,7 @@ same_at text f g a b (inl less) u = absurd (not_among text f a (length b.before)
 same_at text f g a b (inr many) (inl less) = absurd (not_among text g b (length a.before) _ (short_walk text f a) (omega arith) (before_is text f a))
 same_at text f g a b (inr many) (inr few) =
     let count : suc (length a.before) ≡ suc (length b.before) = omega arith in
-    let same = some_is _ _ (sym (at_walk text f a) ∙ ap (λ n. walk n (length text) text) count ∙ at_walk text g b) in
+    let same = same_Some _ _ (sym (at_walk text f a) ∙ ap (λ n. walk n (length text) text) count ∙ at_walk text g b) in
     let faults : Some f ≡ Some g = sym (faulty text f a) ∙ ap (λ (z : List Placed × List ℕ). first_fault z.0) same ∙ faulty text g b in
     cc
 
@@ -101,7 +102,7 @@ none_beyond : (text front rest : List ℕ) (commands : List Placed) → Longest 
 none_beyond text front rest commands l w h =
     let walked = bind_some (walk (length commands) (length text) text) (and_next (length text)) w h in
     let here = walk_again commands text front rest l.items l.whole in
-    let same = some_is _ _ (sym here ∙ walked.1) in
+    let same = same_Some _ _ (sym here ∙ walked.1) in
     let c = bind_some (command_at (length text) walked.0.1) _ w walked.2 in
     let may = guarded (may_stand walked.0.0 c.0.0) _ w c.2 in
     let first = walk_takes (length commands) (length text) text walked.0.0 walked.0.1 refl walked.1 in

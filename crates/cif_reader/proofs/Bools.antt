@@ -21,22 +21,6 @@ and_four true true true true = refl
 pub then_of_four : (a b c d e f : Bool) → e ≡ true → e ≡ (a && b) → f ≡ (c && d) → f ≡ (a && (b && (c && (d && true))))
 then_of_four a b c d e f all p q = q ∙ ap (λ x. x && (c && d)) (sym all ∙ p) ∙ and_four a b c d
 
-pub or_left : (a b : Bool) → (a || b) ≡ false → a ≡ false
-or_left true b h = h
-or_left false b h = refl
-
-pub or_right : (a b : Bool) → (a || b) ≡ false → b ≡ false
-or_right true b h = absurd (cc)
-or_right false b h = h
-
-pub and_left : (a b : Bool) → (a && b) ≡ true → a ≡ true
-and_left true b h = refl
-and_left false b h = h
-
-pub and_right : (a b : Bool) → (a && b) ≡ true → b ≡ true
-and_right true b h = h
-and_right false b h = absurd (cc)
-
 pub or_two : (a b c : Bool) → ((a || (b || false)) || c) ≡ (a || (b || c))
 or_two true b c = refl
 or_two false true c = refl

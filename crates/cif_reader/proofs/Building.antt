@@ -1,5 +1,6 @@
 -- The state behind one command more.
 use Rattle.std.proofs.Common.{◌≡◌, ℕ, ◌<◌, Bool, true, false, not, ◌||◌, if◌then◌else◌, List, [], ◌∷◌, ◌++◌, map, refl, sym, ap, subst, ◌∙◌, append-nil, arith}
+use Rattle.std.proofs.lemmas.Bool.{or_parts}
 use Rattle.std.specs.Prelude.{Option, Some, None, is_some, ◌==◌, OnOk, Ok, Err, Result, option_map}
 use Rattle.std.specs.List.{list_any}
 use Rattle.std.specs.Option.{option_or}
@@ -19,11 +20,10 @@ use Rattle.cif_reader.specs.declared.file.Symbol.{Symbol}
 use Rattle.cif_reader.specs.declared.builder.Open.{Open}
 use Rattle.cif_reader.specs.declared.builder.Builder.{Builder}
 use Rattle.cif_reader.specs.Scope.{Opening, layer_behind, open_behind, scale_behind, scale_in, scale_of}
-use Rattle.cif_reader.specs.File.{Contents, AreKept, IsKept, has_number}
+use Rattle.cif_reader.specs.File.{Contents, AreKeptItems, IsKeptWhat, has_number}
 use Rattle.cif_reader.specs.Reading.{Saying, Remark, IsSaid, AreSaid, AreDefined, definitions, definition_of, said_since, said_outside, said, remarks}
 use Rattle.cif_reader.specs.Faults.{starts, large_number, is_twice, has_zero_scale, fault_in, fault_of}
 use Rattle.cif_reader.specs.Built.{IsSaidBy, IsBuilt, IsClosed, opening_of, items_in, grown_in, grown_outside, opens, is_bare}
-use Rattle.cif_reader.proofs.Bools.{or_right}
 use Rattle.cif_reader.proofs.Numbered.{kept_push}
 use Rattle.cif_reader.proofs.Steps.{bare_step, outside_none, none_said, one_said, said_push, defined_push, built_inside, faultless}
 
@@ -67,12 +67,12 @@ inside_case : (r : Option Open) (saids : List Remark) (item : Item) (remark : Re
 inside_case None saids item remark t h push = cc
 inside_case (Some o) saids item remark t h push = push o.items.items (h t)
 
-kept_case : (r : Option Open) (item : Item) → AreKept (items_in r) → IsKept item.what → AreKept (grown_in r item)
+kept_case : (r : Option Open) (item : Item) → AreKeptItems (items_in r) → IsKeptWhat item.what → AreKeptItems (grown_in r item)
 kept_case None item h k = tt
 kept_case (Some o) item h k = kept_push o.items.items item h k
 
 -- a command that says one thing
-pub item_built : (before : List Placed) (b b' : Builder) (at : ℕ) (what : Command) (w : What) (item : Item) (scale : Scale) → IsBuilt before b → is_bare what ≡ true → scale ≡ scale_in (opening_of b.definition) → IsSaidBy (Some w) (said b.layer scale what) → item.pos ≡ at → item.what ≡ w → IsKept w
+pub item_built : (before : List Placed) (b b' : Builder) (at : ℕ) (what : Command) (w : What) (item : Item) (scale : Scale) → IsBuilt before b → is_bare what ≡ true → scale ≡ scale_in (opening_of b.definition) → IsSaidBy (Some w) (said b.layer scale what) → item.pos ≡ at → item.what ≡ w → IsKeptWhat w
     → b'.layer ≡ b.layer → b'.outer ≡ b.outer
     → opening_of b'.definition ≡ opening_of b.definition → items_in b'.definition ≡ grown_in b.definition item → b'.file.symbols ≡ b.file.symbols → b'.file.top ≡ grown_outside b.definition b.file.top item
     → IsBuilt (record { at = at; what = what } ∷ before) b'
@@ -98,7 +98,7 @@ item_built before b b' at what w item scale h bare e s place is kept same_layer 
       sound = record {
         positive = subst (λ (o : Option Opening). 0 < (scale_in o).b) (sym same_open) h.sound.positive;
         another = λ o is. subst (λ r. list_any (has_number o.symbol) r ≡ false) (sym same_symbols) (h.sound.another o (sym same_open ∙ is));
-        kept = subst AreKept (sym grown) (kept_case b.definition item h.sound.kept (subst IsKept (sym is) kept));
+        kept = subst AreKeptItems (sym grown) (kept_case b.definition item h.sound.kept (subst IsKeptWhat (sym is) kept));
       };
     }
 
@@ -125,7 +125,7 @@ layer_built before b b' at name h named same_outer same_open same_file =
       sound = record {
         positive = subst (λ (r : Option Open). 0 < (scale_in (opening_of r)).b) (sym same_open) h.sound.positive;
         another = λ o is. subst (λ (f : Contents). list_any (has_number o.symbol) f.symbols ≡ false) (sym same_file) (h.sound.another o (ap opening_of (sym same_open) ∙ is));
-        kept = subst (λ (r : Option Open). AreKept (items_in r)) (sym same_open) h.sound.kept;
+        kept = subst (λ (r : Option Open). AreKeptItems (items_in r)) (sym same_open) h.sound.kept;
       };
     }
 
@@ -136,7 +136,7 @@ positive_of n h = grind (arith, nat_tests)
 
 zero_free : (n : Number) (s : Option (Number × Number)) → has_zero_scale (start n s) ≡ false → 0 < (scale_of s).b
 zero_free n None h = omega arith
-zero_free n (Some s) h = positive_of s.1.value (or_right (s.0.value == 0) (s.1.value == 0) h)
+zero_free n (Some s) h = positive_of s.1.value (or_parts (s.0.value == 0) (s.1.value == 0) h).1
 
 none_open : (r : Option Opening) (n : ℕ) → is_some r ≡ false → opens n r ≡ false
 none_open None n h = refl
@@ -179,7 +179,7 @@ start_built before b b' at n s h may fine no_layer old_layer opened empty same_f
       sound = record {
         positive = subst (λ (o : Option Opening). 0 < (scale_in o).b) (sym opened) (zero_free n s f.zero);
         another = λ o is. subst (λ (p : Opening). list_any (has_number p.symbol) b'.file.symbols ≡ false) (some_opening _ _ (sym opened ∙ is)) (subst (λ (f : Contents). list_any (has_number n.value) f.symbols ≡ false) (sym same_file) (sym (known n.value) ∙ f.once));
-        kept = subst AreKept (sym empty) tt;
+        kept = subst AreKeptItems (sym empty) tt;
       };
     }
 
@@ -215,7 +215,7 @@ finish_built before b b' at h old_layer same_outer none same_top closed empty =
       sound = record {
         positive = subst (λ (o : Option Opening). 0 < (scale_in o).b) (sym none) (omega arith);
         another = λ o is. absurd (clash_some o (sym none ∙ is));
-        kept = subst AreKept (sym empty) tt;
+        kept = subst AreKeptItems (sym empty) tt;
       };
     }
 

@@ -1,21 +1,19 @@
 -- The fields of a label, one by one.
-use Rattle.std.proofs.Common.{◌≡◌, ℕ, suc, zero, ◌+◌, Bool, true, false, not, cond, if◌then◌else◌, List, [], ◌∷◌, length, drop, take, refl, sym, ap, ◌∙◌, arith, eqb-true}
+use Rattle.std.proofs.Common.{◌≡◌, ℕ, suc, zero, ◌+◌, Bool, true, false, not, cond, if◌then◌else◌, List, [], ◌∷◌, length, drop, take, refl, sym, ap, ◌∙◌, arith, eqb-true, one-add}
 use Rattle.std.proofs.lemmas.Bool.Decides.{nat_tests}
 use Rattle.std.specs.Prelude.{Option, Some, None, filter, ◌==◌}
 use Rattle.std.specs.List.{list_all, prefix_len, slice_split, onto_first}
 use Rattle.std.specs.Char.{is_ascii_digit}
 use Rattle.std.specs.Str.Parse.{AllDigits}
+use Rattle.plane_geom.specs.Texts.{◌>>=◌}
 use Rattle.cif_grammar.proofs.Numbers.{own}
 use Rattle.cif_reader.specs.Label.{Label, is_white, is_label, fields, label_of_fields, label_in}
-use Rattle.cif_reader.specs.Near.{is_dark, field_at, label_on, label_tail, label_by_fields, ◌>>=◌}
+use Rattle.cif_reader.specs.Near.{is_dark, field_at, label_on, label_tail, label_by_fields}
 
 pub all_digits : (digits : List ℕ) (r : Bool) → r ≡ true → r ≡ list_all is_ascii_digit digits → AllDigits 10 digits
 all_digits digits r all is = own.to digits (sym is ∙ all)
 
 -- ---- what stands between white bytes
-
-one_more : (n : ℕ) → 1 + n ≡ suc n
-one_more n = omega arith
 
 kept : List (List ℕ) → List (List ℕ)
 kept parts = filter (λ part. not (length part == 0)) parts
@@ -24,7 +22,7 @@ white_first : (b : ℕ) (bs : List ℕ) (t : Bool) → is_white b ≡ t → t �
 white_first b bs t h e = ap (λ u. filter (λ part. not (length part == 0)) (cond u ([] ∷ slice_split is_white bs) (onto_first b (slice_split is_white bs)))) (h ∙ e)
 
 past_case : (b : ℕ) (bs : List ℕ) (t : Bool) → is_white b ≡ t → fields (drop (prefix_len is_white bs) bs) ≡ fields bs → fields (drop (cond t (1 + prefix_len is_white bs) 0) (b ∷ bs)) ≡ fields (b ∷ bs)
-past_case b bs true h ih = ap (λ n. fields (drop n (b ∷ bs))) (one_more (prefix_len is_white bs)) ∙ ih ∙ sym (white_first b bs true h refl)
+past_case b bs true h ih = ap (λ n. fields (drop n (b ∷ bs))) (one-add (prefix_len is_white bs)) ∙ ih ∙ sym (white_first b bs true h refl)
 past_case b bs false h ih = refl
 
 -- white bytes before a field
@@ -45,7 +43,7 @@ split_case b bs true h s = record {
   rest = sym (ap (λ n. fields (drop n (b ∷ bs))) (ap (λ u. cond (not u) (1 + prefix_len is_dark bs) 0) h) ∙ white_first b bs true h refl);
 }
 split_case b bs false h s =
-    let n : prefix_len is_dark (b ∷ bs) ≡ suc (prefix_len is_dark bs) = ap (λ u. cond (not u) (1 + prefix_len is_dark bs) 0) h ∙ one_more (prefix_len is_dark bs) in
+    let n : prefix_len is_dark (b ∷ bs) ≡ suc (prefix_len is_dark bs) = ap (λ u. cond (not u) (1 + prefix_len is_dark bs) 0) h ∙ one-add (prefix_len is_dark bs) in
     record {
       more = s.more;
       is = ap (λ u. cond u ([] ∷ slice_split is_white bs) (onto_first b (slice_split is_white bs))) h ∙ ap (onto_first b) s.is ∙ ap (λ k. take k (b ∷ bs) ∷ s.more) (sym n);
@@ -66,7 +64,7 @@ record IsAtField (bytes : List ℕ) : Type 0 where
   at : prefix_len is_white bytes ≡ 0
 
 at_case : (b : ℕ) (bs : List ℕ) (t : Bool) → is_white b ≡ t → prefix_len is_white (drop (prefix_len is_white bs) bs) ≡ 0 → prefix_len is_white (drop (cond t (1 + prefix_len is_white bs) 0) (b ∷ bs)) ≡ 0
-at_case b bs true h ih = ap (λ n. prefix_len is_white (drop n (b ∷ bs))) (one_more (prefix_len is_white bs)) ∙ ih
+at_case b bs true h ih = ap (λ n. prefix_len is_white (drop n (b ∷ bs))) (one-add (prefix_len is_white bs)) ∙ ih
 at_case b bs false h ih = ap (λ t. cond t (1 + prefix_len is_white bs) 0) h
 
 at_field : (bytes : List ℕ) → prefix_len is_white (drop (prefix_len is_white bytes) bytes) ≡ 0

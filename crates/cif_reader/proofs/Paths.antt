@@ -1,17 +1,19 @@
 -- Points one by one, and the path that they make.
 use Rattle.std.proofs.Common.{◌≡◌, ℕ, suc, zero, ◌+◌, ◌<◌, ◌≤◌, Bool, true, false, ◌||◌, ◌&&◌, List, [], ◌∷◌, ◌++◌, length, get_or, add-one, take, map, refl, sym, ap, subst, ◌∙◌, arith, Option, if◌then◌else◌}
-use Rattle.std.specs.Prelude.{ℤ, pos, ◌*ℤ◌, flat_map, is_some, Some, None}
+use Rattle.std.specs.Prelude.{pos, ◌*ℤ◌, flat_map, is_some, Some, None}
 use Rattle.std.specs.List.{list_any, list_all}
 use Rattle.std.specs.Ordering.{int_eq}
-use Rattle.std.proofs.lemmas.Int.{ints}
 use Rattle.std.proofs.lemmas.List.{take_all}
+use Rattle.std.proofs.lemmas.Bool.{or_parts}
+use Rattle.std.proofs.lemmas.Bool.Decides.{Decides-int_eq}
 use Rattle.plane_geom.specs.declared.shapes.Point.{Point}
 use Rattle.plane_geom.specs.Covering.{is_along, edges_from, segments}
 use Rattle.cif_grammar.specs.declared.spelled.Spot.{Spot}
 use Rattle.cif_reader.specs.declared.measure.Scale.{Scale}
 use Rattle.cif_reader.specs.Measure.{point_of, doubled, scaled_point, is_far, is_whole}
 use Rattle.cif_reader.specs.Near.{is_spot_far, is_spot_whole, end_along}
-use Rattle.cif_reader.proofs.Bools.{or_two, and_two, or_left, or_right}
+use Rattle.cif_reader.proofs.Transforming.{none_at}
+use Rattle.cif_reader.proofs.Bools.{or_two, and_two}
 
 -- ---- the measures of points
 
@@ -33,21 +35,16 @@ far_path s p ps e f none here rest = rest ∙ ap (λ x. x || list_any (is_spot_f
 pub whole_path : (s : Scale) (p : Spot) (ps : List Spot) (e f : Bool) → e ≡ true → e ≡ is_spot_whole s p → f ≡ list_all (is_spot_whole s) ps → f ≡ list_all (is_whole s) (flat_map doubled (map point_of (p ∷ ps)))
 whole_path s p ps e f all here rest = rest ∙ ap (λ x. x && list_all (is_spot_whole s) ps) (sym all ∙ here) ∙ all_doubled s (p ∷ ps)
 
-none_at : (s : Scale) (ps : List Spot) (i : ℕ) (d : Spot) → list_any (is_spot_far s) ps ≡ false → i < length ps → is_spot_far s (get_or ps i d) ≡ false
-none_at s [] i d h lt = absurd (omega arith)
-none_at s (p ∷ ps) zero d h lt = or_left (is_spot_far s p) (list_any (is_spot_far s) ps) h
-none_at s (p ∷ ps) (suc i) d h lt = none_at s ps i d (or_right (is_spot_far s p) (list_any (is_spot_far s) ps) h) (omega arith)
-
 -- No point of a path that isn't far is.
 pub spot_near : (s : Scale) (p : Spot) (ps : List Spot) (i : ℕ) (d : Spot) → list_any (is_far s) (flat_map doubled (map point_of (p ∷ ps))) ≡ false → i < length ps → is_spot_far s (get_or ps i d) ≡ false
-spot_near s p ps i d h lt = none_at s ps i d (or_right (is_spot_far s p) (list_any (is_spot_far s) ps) (any_doubled s (p ∷ ps) ∙ h)) lt
+spot_near s p ps i d h lt = none_at (is_spot_far s) ps i d (or_parts (is_spot_far s p) (list_any (is_spot_far s) ps) (any_doubled s (p ∷ ps) ∙ h)).1 lt
 
 -- the same of a list that is lent
 pub lent_near : (s : Scale) (p : Spot) (ps lent : List Spot) (i : ℕ) (d : Spot) → lent ≡ ps → list_any (is_far s) (flat_map doubled (map point_of (p ∷ ps))) ≡ false → i < length lent → is_spot_far s (get_or lent i d) ≡ false
 lent_near s p ps lent i d e h lt = spot_near s p lent i d (ap (λ r. list_any (is_far s) (flat_map doubled (map point_of (p ∷ r)))) e ∙ h) lt
 
 pub first_near : (s : Scale) (p : Spot) (ps : List Spot) → list_any (is_far s) (flat_map doubled (map point_of (p ∷ ps))) ≡ false → is_spot_far s p ≡ false
-first_near s p ps h = or_left (is_spot_far s p) (list_any (is_spot_far s) ps) (any_doubled s (p ∷ ps) ∙ h)
+first_near s p ps h = (or_parts (is_spot_far s p) (list_any (is_spot_far s) ps) (any_doubled s (p ∷ ps) ∙ h)).0
 
 -- ---- edges
 
@@ -75,11 +72,8 @@ pub edges_along : (p : Spot) (qs : List Spot) → list_all is_along (edges_from 
 edges_along p [] = refl
 edges_along p (q ∷ qs) = step_some (is_along (point_of p, point_of q)) (end_along q qs) _ (edges_along q qs)
 
-same_int : (z : ℤ) → int_eq z z ≡ true
-same_int z = grind (arith, ints)
-
 pub segments_along : (p : Spot) (qs : List Spot) → is_some (end_along p qs) ≡ list_all is_along (segments (map point_of (p ∷ qs)))
-segments_along p [] = sym (still (int_eq (point_of p).x (point_of p).x) (int_eq (point_of p).y (point_of p).y) (same_int (point_of p).x)) where
+segments_along p [] = sym (still (int_eq (point_of p).x (point_of p).x) (int_eq (point_of p).y (point_of p).y) ((Decides-int_eq (point_of p).x (point_of p).x).1 refl)) where
   still : (a b : Bool) → a ≡ true → ((a || b) && true) ≡ true
   still true b h = refl
   still false b h = absurd (cc)

@@ -8,18 +8,18 @@ use Rattle.std.proofs.lemmas.Nat.{div-add-mod'}
 use Rattle.std.proofs.lemmas.Bool.Decides.{nat_tests}
 use Rattle.std.proofs.Common.{eqb-true}
 use Rattle.std.proofs.lemmas.Int.{ints}
+use Rattle.std.proofs.lemmas.Bool.{and_parts}
+use Rattle.std.proofs.lemmas.List.Folds.{list_all-append}
 use Rattle.plane_geom.specs.declared.shapes.Point.{Point}
 use Rattle.plane_geom.specs.declared.places.Place.{Place}
 use Rattle.plane_geom.specs.Placement.{negate_x, negate_y, moved, placed, IsPlaceOf}
-use Rattle.plane_geom.proofs.Turning.{moved-append, plus}
+use Rattle.plane_geom.proofs.Turning.{moved-append, plus, plus-assoc}
 use Rattle.cif_grammar.specs.Grammar.{Transform, translate, mirror_x, mirror_y, rotate}
 use Rattle.cif_reader.specs.declared.facing.Facing.{Facing}
 use Rattle.cif_reader.specs.declared.facing.Facing.TheVariants.{East, North, West, South}
 use Rattle.cif_reader.specs.declared.measure.Scale.{Scale}
 use Rattle.cif_reader.specs.Measure.{point_of, facing, turns_to, is_whole, scaled, shifts_once, steps_once, steps_of, shift_of, origin}
 use Rattle.cif_reader.specs.Near.{turns_once}
-use Rattle.cif_reader.proofs.Bools.{and_left, and_right}
-use Rattle.cif_reader.proofs.Transforming.{all_append}
 
 -- ---- a turn, and then a shift
 
@@ -31,12 +31,6 @@ no_more a = omega (arith, ints)
 
 from_none : (a b : ℤ) → a +ℤ b ≡ a +ℤ (pos 0 +ℤ b)
 from_none a b = omega (arith, ints)
-
-grouped : (a b c : ℤ) → (a +ℤ b) +ℤ c ≡ a +ℤ (b +ℤ c)
-grouped a b c = omega (arith, ints)
-
-plus-grouped : (p q r : Point) → plus (plus p q) r ≡ plus p (plus q r)
-plus-grouped p q r = λ i. record { x = grouped p.x q.x r.x i; y = grouped p.y q.y r.y i }
 
 facing_plus : (f : Option Facing) (p q : Point) → moved (turns_to f) (plus p q) ≡ plus (moved (turns_to f) p) (moved (turns_to f) q)
 facing_plus None p q = refl
@@ -85,7 +79,7 @@ steps_split f (t ∷ ts) p =
     let here : Point = moved (turns_once t) p in
     moved-append (steps_once f t) (steps_of f ts) p ∙ ap after (once_split f t p) ∙ steps_split f ts (plus here from)
     ∙ ap (λ q. plus q (after origin)) (turns_plus ts here from)
-    ∙ plus-grouped (turn here) (turn from) (after origin)
+    ∙ plus-assoc (turn here) (turn from) (after origin)
     ∙ ap (λ q. plus (turn here) q) (sym (steps_split f ts from))
     ∙ λ i. plus (sym (moved-append (turns_once t) (flat_map turns_once ts) p) i) (sym (moved-append (steps_once f t) (steps_of f ts) origin) i)
 
@@ -169,8 +163,8 @@ facing_scales s (Some South) p q h = record { x = h.y; y = neg_scales s p.x q.x 
 
 once_scales : (s : Scale) (t : Transform) (p q : Point) → list_all (is_whole s) (shifts_once t) ≡ true → Scales s p q → Scales s (moved (steps_once (λ z. z) t) p) (moved (steps_once (scaled s) t) q)
 once_scales s (translate d) p q whole h = record {
-  x = plus_scales s p.x q.x (pos 2 *ℤ (point_of d).x) (and_left _ _ whole) h.x;
-  y = plus_scales s p.y q.y (pos 2 *ℤ (point_of d).y) (and_left _ _ (and_right _ _ whole)) h.y;
+  x = plus_scales s p.x q.x (pos 2 *ℤ (point_of d).x) (and_parts _ _ whole).0 h.x;
+  y = plus_scales s p.y q.y (pos 2 *ℤ (point_of d).y) (and_parts _ _ (and_parts _ _ whole).1).0 h.y;
 }
 once_scales s mirror_x p q whole h = record { x = neg_scales s p.x q.x h.x; y = h.y }
 once_scales s mirror_y p q whole h = record { x = h.x; y = neg_scales s p.y q.y h.y }
@@ -179,9 +173,9 @@ once_scales s (rotate d) p q whole h = facing_scales s (facing (point_of d)) p q
 steps_scale : (s : Scale) (ts : List Transform) (p q : Point) → list_all (is_whole s) (flat_map shifts_once ts) ≡ true → Scales s p q → Scales s (moved (steps_of (λ z. z) ts) p) (moved (steps_of (scaled s) ts) q)
 steps_scale s [] p q whole h = h
 steps_scale s (t ∷ ts) p q whole h =
-    let parts : (list_all (is_whole s) (shifts_once t) && list_all (is_whole s) (flat_map shifts_once ts)) ≡ true = sym (all_append (is_whole s) (shifts_once t) (flat_map shifts_once ts)) ∙ whole in
-    let next = once_scales s t p q (and_left _ _ parts) h in
-    let rest = steps_scale s ts (moved (steps_once (λ z. z) t) p) (moved (steps_once (scaled s) t) q) (and_right _ _ parts) next in
+    let parts : (list_all (is_whole s) (shifts_once t) && list_all (is_whole s) (flat_map shifts_once ts)) ≡ true = sym (list_all-append (is_whole s) (shifts_once t) (flat_map shifts_once ts)) ∙ whole in
+    let next = once_scales s t p q (and_parts _ _ parts).0 h in
+    let rest = steps_scale s ts (moved (steps_once (λ z. z) t) p) (moved (steps_once (scaled s) t) q) (and_parts _ _ parts).1 next in
     subst (λ r. Scales s r (moved (steps_of (scaled s) (t ∷ ts)) q)) (sym (moved-append (steps_once (λ z. z) t) (steps_of (λ z. z) ts) p))
     (subst (λ r. Scales s (moved (steps_of (λ z. z) ts) (moved (steps_once (λ z. z) t) p)) r) (sym (moved-append (steps_once (scaled s) t) (steps_of (scaled s) ts) q)) rest)
 

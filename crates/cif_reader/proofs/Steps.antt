@@ -2,7 +2,7 @@
 use Rattle.std.proofs.Common.{◌≡◌, ℕ, Bool, true, false, not, ◌&&◌, if◌then◌else◌, List, [], ◌∷◌, ◌++◌, refl, sym, ap, ◌∙◌, append-nil}
 use Rattle.std.specs.Prelude.{Option, Some, None, is_some, option_map}
 use Rattle.std.specs.List.{list_all}
-use Rattle.std.specs.Option.{option_or}
+use Rattle.plane_geom.proofs.Options.{option_or_none}
 use Rattle.cif_grammar.specs.Grammar.{Command, box, polygon, wire, layer, call, user, comment, start, finish, Placed, is_inside, may_stand}
 use Rattle.cif_reader.specs.declared.measure.Scale.{Scale}
 use Rattle.cif_reader.specs.declared.file.Item.{Item}
@@ -17,10 +17,6 @@ use Rattle.cif_reader.specs.Built.{IsFine, IsSaidBy, IsBuilt, opening_of, is_bar
 use Rattle.cif_reader.proofs.Finding.{find_none}
 
 -- ---- no fault
-
-none_of : {X : Type 0} (a b : Option X) → option_or a b ≡ None → (a ≡ None) × (b ≡ None)
-none_of None b h = (refl, h)
-none_of (Some x) b h = cc
 
 not_then : {X : Type 0} (t : Bool) (x : X) (r : Option X) → (if t then Some x else r) ≡ None → (t ≡ false) × (r ≡ None)
 not_then true x r h = cc
@@ -41,7 +37,7 @@ pub record Faultless (s : Scale) (twice : Bool) (c : Command) : Type 0 where
 
 pub faultless : (current : Option (List ℕ)) (s : Scale) (twice : Bool) (c : Placed) → fault_in current s twice c ≡ None → Faultless s twice c.what
 faultless current s twice c h =
-    let a = none_of _ _ h in
+    let a = option_or_none _ _ h in
     let far = not_then (goes_far s c.what) _ _ a.1 in
     let many = not_then (has_many_points c.what) _ _ far.1 in
     let straight = not_then (not (is_manhattan c.what)) _ _ many.1 in

@@ -1,12 +1,13 @@
 -- The transformations of a call.
-use Rattle.std.proofs.Common.{◌≡◌, ℕ, suc, zero, ◌+◌, ◌<◌, ◌≤◌, Bool, true, false, ◌||◌, ◌&&◌, List, [], ◌∷◌, ◌++◌, length, get_or, drop, take, map, refl, sym, ap, subst, ◌∙◌, arith, add-one, append_assoc, append-nil}
+use Rattle.std.proofs.Common.{◌≡◌, ℕ, suc, zero, ◌+◌, ◌<◌, ◌≤◌, Bool, false, ◌||◌, ◌&&◌, List, [], ◌∷◌, ◌++◌, length, get_or, drop, take, map, refl, sym, ap, subst, ◌∙◌, arith, add-one, append_assoc, append-nil}
 use Rattle.std.specs.Prelude.{ℤ, flat_map}
 use Rattle.std.specs.List.{list_any, list_all}
 use Rattle.std.proofs.lemmas.List.{take_all, drop_all}
 use Rattle.std.proofs.Math.Seq.{drop-cons}
+use Rattle.std.proofs.lemmas.Bool.{or_parts}
+use Rattle.plane_geom.proofs.Lists.{any_map}
 use Rattle.cif_reader.specs.Faults.{is_large, of_transform}
-use Rattle.cif_reader.proofs.Bools.{or_left, or_right}
-use Rattle.std.proofs.lemmas.List.Folds.{list_all-map, list_any-append}
+use Rattle.std.proofs.lemmas.List.Folds.{list_all-map, list_any-append, list_all-append}
 use Rattle.plane_geom.specs.declared.shapes.Point.{Point}
 use Rattle.plane_geom.specs.declared.places.Place.{Place}
 use Rattle.plane_geom.specs.Placement.{moved, placed, IsPlaceOf}
@@ -26,28 +27,17 @@ pub any_flat : {X Y : Type 0} (t : Y → Bool) (f : X → List Y) (xs : List X) 
 any_flat t f [] = refl
 any_flat t f (x ∷ xs) = list_any-append t (f x) (flat_map f xs) ∙ ap (λ r. list_any t (f x) || r) (any_flat t f xs)
 
-pub all_append : {Y : Type 0} (t : Y → Bool) (xs ys : List Y) → list_all t (xs ++ ys) ≡ (list_all t xs && list_all t ys)
-all_append t [] ys = refl
-all_append t (x ∷ xs) ys = regroup (t x) (list_all t xs) (list_all t ys) (list_all t (xs ++ ys)) (all_append t xs ys) where
-  regroup : (a b c d : Bool) → d ≡ (b && c) → (a && d) ≡ ((a && b) && c)
-  regroup true b c d h = h
-  regroup false b c d h = refl
-
 pub all_flat : {X Y : Type 0} (t : Y → Bool) (f : X → List Y) (xs : List X) → list_all t (flat_map f xs) ≡ list_all (λ x. list_all t (f x)) xs
 all_flat t f [] = refl
-all_flat t f (x ∷ xs) = all_append t (f x) (flat_map f xs) ∙ ap (λ r. list_all t (f x) && r) (all_flat t f xs)
+all_flat t f (x ∷ xs) = list_all-append t (f x) (flat_map f xs) ∙ ap (λ r. list_all t (f x) && r) (all_flat t f xs)
 
 pub shifts_map : (s : Scale) (ts : List Transformation) → list_all (λ t. list_all (is_whole s) (shifts_once (transform_of t))) ts ≡ list_all (is_whole s) (flat_map shifts_once (map transform_of ts))
 shifts_map s ts = sym (all_flat (is_whole s) shifts_once (map transform_of ts) ∙ list_all-map (λ t. list_all (is_whole s) (shifts_once t)) transform_of ts)
 
-none_at : {X : Type 0} (t : X → Bool) (xs : List X) (i : ℕ) (d : X) → list_any t xs ≡ false → i < length xs → t (get_or xs i d) ≡ false
+pub none_at : {X : Type 0} (t : X → Bool) (xs : List X) (i : ℕ) (d : X) → list_any t xs ≡ false → i < length xs → t (get_or xs i d) ≡ false
 none_at t [] i d h lt = absurd (omega arith)
-none_at t (x ∷ xs) zero d h lt = or_left (t x) (list_any t xs) h
-none_at t (x ∷ xs) (suc i) d h lt = none_at t xs i d (or_right (t x) (list_any t xs) h) (omega arith)
-
-any_map : {X Y : Type 0} (t : Y → Bool) (f : X → Y) (xs : List X) → list_any t (map f xs) ≡ list_any (λ x. t (f x)) xs
-any_map t f [] = refl
-any_map t f (x ∷ xs) = ap (λ r. t (f x) || r) (any_map t f xs)
+none_at t (x ∷ xs) zero d h lt = (or_parts (t x) (list_any t xs) h).0
+none_at t (x ∷ xs) (suc i) d h lt = none_at t xs i d (or_parts (t x) (list_any t xs) h).1 (omega arith)
 
 -- No number of a transformation is large where none of all is.
 pub one_small : (ts : List Transformation) (i : ℕ) (d : Transformation) → list_any is_large (flat_map of_transform (map transform_of ts)) ≡ false → i < length ts → list_any is_large (of_transform (transform_of (get_or ts i d))) ≡ false

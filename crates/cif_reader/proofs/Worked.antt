@@ -22,7 +22,7 @@ use Rattle.cif_reader.specs.declared.file.Symbol.{Symbol}
 use Rattle.cif_reader.specs.declared.file.What.TheVariants.{Draw, Mark}
 use Rattle.cif_reader.specs.declared.measure.Scale.{Scale}
 use Rattle.cif_reader.specs.Scope.{layer_behind, scale_behind}
-use Rattle.cif_reader.specs.Label.{fields, is_name, coordinate_of, label_in}
+use Rattle.cif_reader.specs.Label.{fields, coordinate_of, label_in}
 use Rattle.cif_reader.specs.Measure.{is_far, is_whole, scaled, facing, turns_to, box_corners}
 use Rattle.cif_reader.specs.Faults.{first_fault, fault_of, end_fault, FaultAt, Refuses}
 use Rattle.cif_reader.specs.Reading.{drawn, called, marked, definitions, said_outside, IsSaid, Accepts}
@@ -63,10 +63,6 @@ no_labels = refl
 coordinates : map coordinate_of (codes "2147483647" ∷ codes "-2147483647" ∷ codes "2147483648" ∷ codes "-00" ∷ codes "-" ∷ codes "+1" ∷ []) ≡ Some (pos 2147483647) ∷ Some (minus 2147483647) ∷ None ∷ Some (pos 0) ∷ None ∷ None ∷ []
 unfolding limit minus
 coordinates = refl
-
--- names of 64 and of 65 bytes
-names : map is_name (codes "0123456789012345678901234567890123456789012345678901234567890123" ∷ codes "01234567890123456789012345678901234567890123456789012345678901234" ∷ [] ∷ []) ≡ true ∷ false ∷ false ∷ []
-names = refl
 
 -- ---- measures
 

@@ -12,7 +12,7 @@ use Rattle.cif_reader.specs.Measure.{is_whole, scaled, scaled_point, scaled_rect
 use Rattle.cif_reader.specs.Faults.{is_large, numbers, goes_far, is_manhattan, starts}
 use Rattle.cif_reader.specs.Reading.{Saying, IsSaid, on_layer, AreSaid, AreDefined, definitions, said_since, said_outside}
 use Rattle.cif_reader.specs.Scope.{Opening, layer_behind, layer_around, open_behind, scale_in}
-use Rattle.cif_reader.specs.File.{AreKept, has_number}
+use Rattle.cif_reader.specs.File.{AreKeptItems, has_number}
 use Rattle.cif_reader.specs.declared.file.Symbol.{Symbol}
 use Rattle.cif_reader.specs.declared.builder.Open.{Open}
 use Rattle.cif_reader.specs.declared.builder.Builder.{Builder}
@@ -87,7 +87,7 @@ IsClosed (Some o) items before after = (symbol : Symbol) × (symbol.number ≡ o
 pub record IsSound (b : Builder) : Type 0 where
   pub positive : 0 < (scale_in (opening_of b.definition)).b
   pub another : (o : Opening) → opening_of b.definition ≡ Some o → list_any (has_number o.symbol) b.file.symbols ≡ false
-  pub kept : AreKept (items_in b.definition)
+  pub kept : AreKeptItems (items_in b.definition)
 
 -- The state is that behind these commands, the latest first.
 pub record IsBuilt (before : List Placed) (b : Builder) : Type 0 where

@@ -3,6 +3,7 @@ use Rattle.std.specs.Prelude.{◌≡◌, ◌⊎◌, ℕ, Bool, true, false, not,
 use Rattle.std.specs.List.{list_any, list_all, prefix_len}
 use Rattle.std.specs.Option.{option_or}
 use Rattle.plane_geom.specs.Covering.{is_along, outline, segments}
+use Rattle.plane_geom.specs.Texts.{begins_with}
 use Rattle.cif_grammar.specs.declared.spelled.Number.{Number}
 use Rattle.cif_grammar.specs.declared.spelled.Spot.{Spot}
 use Rattle.cif_grammar.specs.Words.{limit, is_blank}
@@ -122,10 +123,6 @@ first_fault [] = None
 first_fault (c ∷ before) = option_or (first_fault before) (fault_of before c)
 
 -- ---- what stands where no command is spelled
-
-abbrev pub begins_with : ℕ → List ℕ → Bool
-begins_with byte [] = false
-begins_with byte (b ∷ bs) = b == byte
 
 -- any blanks, and a `D`
 abbrev pub is_delete : List ℕ → Bool

@@ -21,16 +21,16 @@ pub record IsDrawn (shape : Shape) : Type 0 where
   pub formed : IsWellFormed (figure_of shape)
   pub within : IsFigureWithin limit (figure_of shape)
 
-abbrev pub IsKept : What → Type 0
-IsKept (Draw on shape) = IsDrawn shape
-IsKept (Call symbol place) = IsShiftWithin limit place
-IsKept (Mark name at on) = IsPointWithin limit at
+abbrev pub IsKeptWhat : What → Type 0
+IsKeptWhat (Draw on shape) = IsDrawn shape
+IsKeptWhat (Call symbol place) = IsShiftWithin limit place
+IsKeptWhat (Mark name at on) = IsPointWithin limit at
 
-abbrev pub AreKept : List Item → Type 0
-AreKept items = AllByRecursion (λ (item : Item). IsKept item.what) items
+abbrev pub AreKeptItems : List Item → Type 0
+AreKeptItems items = AllByRecursion (λ (item : Item). IsKeptWhat item.what) items
 
-abbrev pub AreAllKept : List Symbol → Type 0
-AreAllKept symbols = AllByRecursion (λ (symbol : Symbol). AreKept symbol.items.items) symbols
+abbrev pub AreKeptSymbols : List Symbol → Type 0
+AreKeptSymbols symbols = AllByRecursion (λ (symbol : Symbol). AreKeptItems symbol.items.items) symbols
 
 abbrev pub has_number : ℕ → Symbol → Bool
 has_number number symbol = number == symbol.number
@@ -42,10 +42,10 @@ AreApart (symbol ∷ symbols) = (list_any (has_number symbol.number) symbols ≡
 
 -- What a file keeps.
 pub record IsFile (file : Contents) : Type 0 where
-  pub symbols : AreAllKept file.symbols
-  pub top : AreKept file.top
+  pub symbols : AreKeptSymbols file.symbols
+  pub top : AreKeptItems file.top
   pub apart : AreApart file.symbols
 
 -- each symbol under its number
-abbrev pub AreNumbered : List (ℕ × Symbol) → Type 0
-AreNumbered entries = AllByRecursion (λ (e : ℕ × Symbol). e.0 ≡ e.1.number) entries
+abbrev pub AreUnderNumbers : List (ℕ × Symbol) → Type 0
+AreUnderNumbers entries = AllByRecursion (λ (e : ℕ × Symbol). e.0 ≡ e.1.number) entries

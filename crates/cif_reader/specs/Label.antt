@@ -4,7 +4,7 @@ use Rattle.std.specs.List.{list_all, slice_split}
 use Rattle.std.specs.Char.{is_ascii_digit}
 use Rattle.std.specs.Str.Parse.{digits_value}
 use Rattle.plane_geom.specs.declared.shapes.Point.{Point}
-use Rattle.plane_geom.specs.Names.{is_short}
+use Rattle.plane_geom.specs.Names.{is_short, is_name}
 use Rattle.cif_grammar.specs.Words.{limit}
 
 -- a space, tab, CR or LF
@@ -21,15 +21,6 @@ is_label [] = false
 is_label (a ∷ []) = false
 is_label (a ∷ b ∷ []) = a == 57 && b == 52
 is_label (a ∷ b ∷ c ∷ bs) = a == 57 && b == 52 && is_white c
-
--- from 0x21 to 0x7E, and no `;`
-abbrev pub is_name_byte : ℕ → Bool
-is_name_byte b = nat_le 33 b && nat_le b 126 && not (b == 59)
-
--- 1 to 64 such bytes, and no `#` first
-abbrev pub is_name : List ℕ → Bool
-is_name [] = false
-is_name (b ∷ bs) = not (b == 35) && nat_le (length (b ∷ bs)) 64 && list_all is_name_byte (b ∷ bs)
 
 -- digits with a value up to the limit
 abbrev pub size_of : List ℕ → Option ℕ

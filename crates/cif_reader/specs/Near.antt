@@ -12,6 +12,7 @@ use Rattle.plane_geom.specs.Bounds.{IsWithin}
 use Rattle.cif_reader.specs.declared.measure.Corners.{Corners}
 use Rattle.cif_reader.specs.declared.label.LabelText.{LabelText}
 use Rattle.plane_geom.specs.Names.{is_short}
+use Rattle.plane_geom.specs.Texts.{◌>>=◌}
 use Rattle.cif_reader.specs.Label.{Label, is_white, coordinate_of, label_at}
 
 pub record AreNear (r : Corners) : Type 0 where
@@ -62,11 +63,6 @@ label_on name x y layer (Some f) = None
 abbrev pub label_tail : List ℕ → List ℕ → List ℕ → Option (List ℕ × List ℕ) → Option Label
 label_tail name x y None = label_at name (coordinate_of x) (coordinate_of y) None
 label_tail name x y (Some f) = label_on name x y f.0 (field_at f.1)
-
-infixl 10 ◌>>=◌
-abbrev pub ◌>>=◌ : {A B : Type 0} → Option A → (A → Option B) → Option B
-None >>= f = None
-(Some x) >>= f = f x
 
 abbrev pub label_by_fields : List ℕ → Option Label
 label_by_fields text = do

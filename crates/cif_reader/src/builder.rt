@@ -17,7 +17,7 @@ ghost use Rattle.std.specs.Prelude.{◌^◌};
 ghost use Rattle.cif_reader.specs.Faults.{fault_of, large_number, is_twice as is_twice_lem};
 ghost use Rattle.cif_reader.specs.Scope.{scale_in, scale_of as scale_of_lem};
 ghost use Rattle.cif_reader.specs.Reading.{said, labelled, called, IsSaid};
-ghost use Rattle.cif_reader.specs.File.{IsKept, has_number};
+ghost use Rattle.cif_reader.specs.File.{IsKeptWhat, has_number};
 ghost use Rattle.cif_reader.specs.Built.{is_bare, IsFine, IsSaidBy, figure_said, said_drawn, IsScaleSmall, IsBuilt, IsSound, IsClosed, opening_of, items_in, opens, grown_in, grown_outside, may_stand_in};
 
 use crate::calls::place_of;
@@ -57,7 +57,7 @@ fn shape_of(alloc: Global, scale: Scale, command: &Command<'_>) -> Result<Option
     }
 }
 
-/// What a drawn command or a call says, if the command is one: nothing where it has no layer.
+/// What a box, a polygon or a wire says on the layer: nothing where there is none, or the command is another.
 fn drawn_what(
     alloc: Global,
     layer: &Option<Short>,
@@ -67,7 +67,7 @@ fn drawn_what(
     requires some { 0 < scale.b }
     requires fine { IsFine scale (seen command.now) }
     ensures said { IfOk result (λ what. IsSaidBy what (said_drawn layer.now scale (seen command.now))) }
-    ensures kept { IfOk result (λ what. IfSome what IsKept) }
+    ensures kept { IfOk result (λ what. IfSome what IsKeptWhat) }
 {
     let Some(shape) = shape_of(alloc, scale, command)? else {
         return Ok(None);
@@ -99,7 +99,7 @@ fn mark_what(alloc: Global, scale: Scale, text: &[u8]) -> Result<Option<What>, A
     requires some { 0 < scale.b }
     requires fine { IsFine scale (user text.now) }
     ensures said { IfOk result (λ what. IsSaidBy what (labelled scale (label_in_lem text.now))) }
-    ensures kept { IfOk result (λ what. IfSome what IsKept) }
+    ensures kept { IfOk result (λ what. IfSome what IsKeptWhat) }
 {
     let Some(label) = label_in(text) else {
         return Ok(None);
@@ -117,7 +117,7 @@ fn call_what(scale: Scale, symbol: Number, transformations: &[Transformation]) -
     requires some { 0 < scale.b }
     requires fine { IsFine scale (call symbol (map transform_of transformations.now)) }
     ensures said { IsSaid result (called symbol.value (steps_of (scaled scale) (map transform_of transformations.now))) }
-    ensures kept { IsKept result }
+    ensures kept { IsKeptWhat result }
 {
     What::Call {
         symbol: symbol.value as u32,
@@ -135,7 +135,7 @@ fn what_of(
     requires some { 0 < scale.b }
     requires fine { IsFine scale (seen command.now) }
     ensures said { IfOk result (λ what. IsSaidBy what (said layer.now scale (seen command.now))) }
-    ensures kept { IfOk result (λ what. IfSome what IsKept) }
+    ensures kept { IfOk result (λ what. IfSome what IsKeptWhat) }
 {
     match command {
         Command::Call {
@@ -266,7 +266,7 @@ impl Builder {
 
     /// Adds an item.
     fn push(&mut self, item: Item) -> Result<(), AllocError>
-        requires { IsKept item.what }
+        requires { IsKeptWhat item.what }
         ensures layer { self.new.layer ≡ self.old.layer }
         ensures outer { self.new.outer ≡ self.old.outer }
         ensures opening { OnOk result (opening_of self.new.definition ≡ opening_of self.old.definition) }

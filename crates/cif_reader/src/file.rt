@@ -55,19 +55,19 @@ pub struct CifFile {
 impl Model for CifFile {
     ghost use Rattle.std.specs.Prelude.{nat_eq};
     ghost use Rattle.indexmap.specs.IndexMap.{IsUnique, values};
-    ghost use Rattle.cif_reader.specs.File.{Contents, IsFile, AreNumbered};
+    ghost use Rattle.cif_reader.specs.File.{Contents, IsFile, AreUnderNumbers};
 
     ghost Value = { Contents };
 
     ghost view = { λ f. record { symbols = values f.symbols; top = f.top.items } };
 
-    ghost invariant = { λ f. AreNumbered f.symbols.entries × IsUnique nat_eq f.symbols × IsFile (record { symbols = values f.symbols; top = f.top.items }) };
+    ghost invariant = { λ f. AreUnderNumbers f.symbols.entries × IsUnique nat_eq f.symbols × IsFile (record { symbols = values f.symbols; top = f.top.items }) };
 }
 
 impl CifFile {
     ghost use Rattle.std.specs.Prelude.{◌≡◌, List, [], ◌∷◌, ◌++◌, OnOk, IfOk, false, true, length, find, slice_get, option_copied};
     ghost use Rattle.std.specs.List.{list_any};
-    ghost use Rattle.cif_reader.specs.File.{AreKept, IsKept, IsFile, has_number};
+    ghost use Rattle.cif_reader.specs.File.{AreKeptItems, IsKeptWhat, IsFile, has_number};
 
     /// A file of no symbols and no items.
     pub(crate) fn empty(alloc: Global) -> CifFile
@@ -89,7 +89,7 @@ impl CifFile {
     /// Adds a symbol that is not defined yet.
     pub(crate) fn define(&mut self, symbol: Symbol) -> Result<(), AllocError>
         requires another { list_any (has_number symbol.number) self.old.symbols ≡ false }
-        requires kept { AreKept symbol.items.items }
+        requires kept { AreKeptItems symbol.items.items }
         ensures symbols { OnOk result (self.new.symbols ≡ self.old.symbols ++ symbol ∷ []) }
         ensures top { OnOk result (self.new.top ≡ self.old.top) }
     {
@@ -99,7 +99,7 @@ impl CifFile {
 
     /// Adds an item outside of symbols.
     pub(crate) fn add_top(&mut self, item: Item) -> Result<(), AllocError>
-        requires { IsKept item.what }
+        requires { IsKeptWhat item.what }
         ensures top { OnOk result (self.new.top ≡ self.old.top ++ item ∷ []) }
         ensures symbols { OnOk result (self.new.symbols ≡ self.old.symbols) }
     {

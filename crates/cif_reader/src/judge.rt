@@ -9,10 +9,10 @@ ghost use Rattle.cif_reader.specs.Near.{shift_parts};
 
 use crate::calls::{are_whole_shifts, has_turns, shift_of};
 use crate::label::{is_label, label_in};
-use crate::measure::{LIMIT, Scale, box_corners, facing_of, twice};
+use crate::measure::{Scale, box_corners, facing_of, twice};
 use crate::path::{are_many, is_far_path, is_line_along, is_outline_along, is_whole_path};
 use crate::refusal::CifRefusal;
-use cif_grammar::{Command, Number, Path, Spot, Transformation};
+use cif_grammar::{Command, LIMIT, Number, Path, Spot, Transformation};
 use plane_geom::{Point, Short};
 
 /// The number, if it is over the limit.

@@ -5,14 +5,11 @@ ghost use Rattle.std.specs.List.{list_all, prefix_len};
 ghost use Rattle.std.specs.Char.{is_ascii_digit};
 ghost use Rattle.std.specs.Str.Parse.{AllDigits, digits_value};
 ghost use Rattle.cif_grammar.specs.Words.{limit};
-ghost use Rattle.cif_reader.specs.Label.{is_white as is_white_lem, is_label as is_label_lem, is_name as is_name_lem, is_name_byte, size_of as size_of_lem, coordinate_of as coordinate_of_lem, label_in as label_in_lem};
+ghost use Rattle.cif_reader.specs.Label.{is_white as is_white_lem, is_label as is_label_lem, size_of as size_of_lem, coordinate_of as coordinate_of_lem, label_in as label_in_lem};
 ghost use Rattle.cif_reader.specs.Near.{is_dark, field_at, label_seen, label_tail, label_by_fields};
 
-use crate::measure::LIMIT;
-use plane_geom::{Point, Short};
-
-/// The longest name of a label.
-const LONGEST_NAME: usize = 64;
+use cif_grammar::{LIMIT, value_of_digits};
+use plane_geom::{Point, Short, is_name};
 
 /// A label, in hundredths of a micron, and the layer that it names, if it names one.
 #[derive(Debug, Drop)]
@@ -64,19 +61,6 @@ fn are_digits(bytes: &[u8]) -> bool
     bytes.iter().all(|b| b.is_ascii_digit())
 }
 
-/// The value of digits; the first value over the limit stands for all that are greater.
-#[tactic(auto, unfolding(cif_grammar::specs::Words::limit))]
-fn value_of_digits(digits: &[u8]) -> u64
-    requires { AllDigits 10 digits.now }
-    ensures { result ≡ min (digits_value 10 digits.now) (limit + 1) }
-{
-    let mut value = 0u64;
-    for digit in digits {
-        value = (value * 10 + u64::from(*digit - b'0')).min(LIMIT + 1);
-    }
-    value
-}
-
 /// The value of digits up to the limit.
 #[tactic(auto, unfolding(cif_grammar::specs::Words::limit))]
 fn size_of(digits: &[u8]) -> Option<u32>
@@ -106,25 +90,6 @@ fn coordinate_of(field: &[u8]) -> Option<i64>
         let size = size_of(field)?;
         Some(i64::from(size))
     }
-}
-
-fn are_name_bytes(field: &[u8]) -> bool
-    ensures { result ≡ list_all is_name_byte field.now }
-{
-    field.iter().all(|b| b.is_ascii_graphic() && *b != b';')
-}
-
-/// Whether a field may be the name of a label.
-fn is_name(field: &[u8]) -> bool
-    ensures { result ≡ is_name_lem field.now }
-{
-    let Some(first) = field.first() else {
-        return false;
-    };
-    if *first == b'#' || field.len() > LONGEST_NAME {
-        return false;
-    }
-    are_name_bytes(field)
 }
 
 /// Whether a user command is a label.

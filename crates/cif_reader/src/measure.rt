@@ -8,11 +8,8 @@ ghost use Rattle.cif_reader.specs.Measure.{value_of as value_of_lem, point_of, f
 ghost use Rattle.cif_reader.specs.Near.{AreNear};
 
 use crate::facing::{Facing, facing_along, lies_along_y};
-use cif_grammar::{Signed, Spot};
+use cif_grammar::{LIMIT, Signed, Spot};
 use plane_geom::{Point, Rect};
-
-/// The greatest number of a CIF text, and of a file in mask units.
-pub(crate) const LIMIT: u64 = 2_147_483_647;
 
 /// A scale a/b.
 #[derive(Clone, Copy, Debug, PartialEq, Eq)]

@@ -6,10 +6,10 @@ use Rattle.probe_io.proofs.Texts.{Front-is, Whole-is}
 use Rattle.probe_io.proofs.WrittenLemmas.{Appends-then, Appends-front, AppendsFront-more}
 use Rattle.defect_sweep.specs.Counting.{Count}
 use Rattle.layer_map.specs.declared.map.WireLine.{WireLine}
-use Rattle.layer_map.specs.Plan.{Plan, Wire}
+use Rattle.layer_map.specs.Plan.{Plan, Wire, wire_names}
 use Rattle.layer_map.specs.Views.{wire_seen}
 use Rattle.carafe_core.specs.Sides.{comma, entry_text, next_text, sides_text}
-use Rattle.carafe_core.specs.Report.{bridge_line, bridge_lines, line_names, wire_names, tallied, tallies_of, report_text}
+use Rattle.carafe_core.specs.Report.{bridge_line, bridge_lines, line_names, tallied, tallies_of, report_text}
 use Rattle.layout_extract.specs.Layouts.{NamedNets}
 use Rattle.defect_sweep.specs.declared.sides.SideWeight.{SideWeight}
 

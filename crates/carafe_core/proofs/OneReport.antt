@@ -5,7 +5,8 @@ use Rattle.net_trace.specs.Touching.{Nets}
 use Rattle.defect_sweep.specs.declared.sides.SideWeight.{SideWeight}
 use Rattle.defect_sweep.specs.Counting.{Count}
 use Rattle.bridge_rank.specs.Ranking.{IsRanked}
-use Rattle.carafe_core.specs.Report.{report_text, wire_names, IsRanking}
+use Rattle.layer_map.specs.Plan.{wire_names}
+use Rattle.carafe_core.specs.Report.{report_text, IsRanking}
 use Rattle.carafe_core.specs.Causes.{IsBridgesReportOf}
 use Rattle.net_trace.specs.Same.{AreSameNets}
 use Rattle.defect_sweep.proofs.TracedCounts.{counts_alike}

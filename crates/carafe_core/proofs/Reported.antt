@@ -4,7 +4,8 @@ use Rattle.defect_sweep.specs.declared.sides.SideWeight.{SideWeight}
 use Rattle.carafe_core.specs.declared.subject.Subject.{Subject}
 use Rattle.carafe_core.specs.Settings.{BridgesSettings, IsBridgesCall}
 use Rattle.carafe_core.specs.Subject.{IsSubject}
-use Rattle.carafe_core.specs.Report.{report_text, wire_names, tallies_of}
+use Rattle.layer_map.specs.Plan.{wire_names}
+use Rattle.carafe_core.specs.Report.{report_text, tallies_of}
 use Rattle.carafe_core.specs.Causes.{IsBridgesReportOf}
 use Rattle.carafe_core.specs.Answers.{Shown, Text, FaultCount, HasRisen, IsAppended, IsFrontAppended, IsReported, IsCutOff}
 

@@ -4,7 +4,7 @@ use Rattle.std.specs.List.{concat}
 use Rattle.std.specs.Fmt.{decimal}
 use Rattle.layer_map.specs.declared.map.WireId.{WireId}
 use Rattle.layer_map.specs.declared.map.WireLine.{WireLine}
-use Rattle.layer_map.specs.Plan.{Plan, Wire}
+use Rattle.layer_map.specs.Plan.{Plan, wire_names}
 use Rattle.net_trace.specs.Touching.{Nets}
 use Rattle.layout_extract.specs.Layouts.{NamedNets}
 use Rattle.defect_sweep.specs.declared.sides.SideWeight.{SideWeight}
@@ -66,10 +66,6 @@ report_text sides wires names tallies ranked = header sides (length names) talli
 -- the names of a map's lines of wires
 abbrev pub line_names : List WireLine → List (List ℕ)
 line_names lines = map (λ (w : WireLine). w.name) lines
-
--- the names of the wires, in the order of their numbers
-abbrev pub wire_names : Plan → List (List ℕ)
-wire_names plan = map (λ (w : Wire). w.name) plan.wires
 
 abbrev pub tallies_of : NamedNets → Tallies
 tallies_of named = record { bound = named.bound; unbound = named.unbound; deep = named.deep }

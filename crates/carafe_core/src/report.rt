@@ -4,7 +4,8 @@ ghost use Rattle.std.specs.Prelude.{◌≡◌, ◌++◌, OnOk, OnErr, flat_map};
 ghost use Rattle.probe_io.specs.Causes.{HasCause};
 ghost use Rattle.probe_io.specs.Written.{Appends, AppendsFront};
 ghost use Rattle.carafe_core.specs.Sides.{entry_text, next_text, sides_text};
-ghost use Rattle.carafe_core.specs.Report.{name_at, line_names, wire_names, tallies_of, tallied, opening, numbers_text, header, wire_count, bridge_start, bridge_line, bridge_lines, tally, report_text};
+ghost use Rattle.layer_map.specs.Plan.{wire_names};
+ghost use Rattle.carafe_core.specs.Report.{name_at, line_names, tallies_of, tallied, opening, numbers_text, header, wire_count, bridge_start, bridge_line, bridge_lines, tally, report_text};
 
 use crate::subject::Subject;
 use defect_sweep::{PairCount, SideWeight};

@@ -5,6 +5,7 @@ use Rattle.std.specs.Prelude.{Vec}
 use Rattle.std.specs.Global.{Global}
 use Rattle.std.specs.Str.{bytes_eq}
 use Rattle.std.proofs.lemmas.Bool.{lt-ltb, le-ltb, ltb-true, ltb-false}
+use Rattle.plane_geom.proofs.Lists.{any_map}
 use Rattle.layer_map.specs.declared.map.WireId.{WireId}
 use Rattle.layer_map.specs.declared.map.WireLine.{WireLine}
 use Rattle.layer_map.specs.declared.map.LabelLine.{LabelLine}
@@ -104,22 +105,18 @@ numbered_not wires ws rest next n front h e w = sym (h.same ∙ ap (λ r. option
 
 -- ---- the same of plain wires
 
-pub any_map : {X Y : Type 0} (f : X → Y) (p : Y → Bool) (xs : List X) → list_any p (map f xs) ≡ list_any (λ x. p (f x)) xs
-any_map f p [] = refl
-any_map f p (x ∷ xs) = ap (λ t. p (f x) || t) (any_map f p xs)
-
 place_map : {X Y : Type 0} (f : X → Y) (p : Y → Bool) (xs : List X) → position_or_len p (map f xs) ≡ position_or_len (λ x. p (f x)) xs
 place_map f p [] = refl
 place_map f p (x ∷ xs) = ap (λ n. cond (not (p (f x))) (1 + n) 0) (place_map f p xs)
 
 pub names_any : (n : List ℕ) (wires : List WireLine) → is_among n (map (λ w. w.name) (map wire_seen wires)) ≡ list_any (has_name n) wires
-names_any n wires = any_map (λ (w : Wire). w.name) (λ other. bytes_eq other n) (map wire_seen wires) ∙ any_map wire_seen (λ w. bytes_eq w.name n) wires
+names_any n wires = any_map (λ other. bytes_eq other n) (λ (w : Wire). w.name) (map wire_seen wires) ∙ any_map (λ w. bytes_eq w.name n) wire_seen wires
 
 pub number_same : (n : List ℕ) (wires : List WireLine) → number_of (map wire_seen wires) n ≡ position_or_len (has_name n) wires
 number_same n wires = place_map wire_seen (λ w. bytes_eq w.name n) wires
 
 pub layers_any : (n : List ℕ) (labels : List LabelLine) → is_among n (map (λ l. l.layer) (map label_seen labels)) ≡ list_any (λ l. bytes_eq l.layer n) labels
-layers_any n labels = any_map (λ (l : LabelWires). l.layer) (λ other. bytes_eq other n) (map label_seen labels) ∙ any_map label_seen (λ l. bytes_eq l.layer n) labels
+layers_any n labels = any_map (λ other. bytes_eq other n) (λ (l : LabelWires). l.layer) (map label_seen labels) ∙ any_map (λ l. bytes_eq l.layer n) label_seen labels
 
 pub wire_seen_so : (n : List ℕ) (wires : List WireLine) (t : Bool) (o : Option WireId) → list_any (has_name n) wires ≡ t → o ≡ (if t then Some (record { 0 = position_or_len (has_name n) wires }) else None) → MatchOption o (is_among n (map (λ w. w.name) (map wire_seen wires)) ≡ false) (λ w. (is_among n (map (λ w. w.name) (map wire_seen wires)) ≡ true) × (w.0 ≡ number_of (map wire_seen wires) n))
 wire_seen_so n wires true o e h = subst (λ p. MatchOption p (is_among n (map (λ w. w.name) (map wire_seen wires)) ≡ false) (λ w. (is_among n (map (λ w. w.name) (map wire_seen wires)) ≡ true) × (w.0 ≡ number_of (map wire_seen wires) n))) (sym h) (names_any n wires ∙ e, sym (number_same n wires))

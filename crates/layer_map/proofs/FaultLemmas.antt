@@ -2,15 +2,16 @@
 use Rattle.std.proofs.Common.{◌≡◌, ℕ, ◌<◌, ◌≤◌, Bool, true, false, if◌then◌else◌, not, ◌||◌, List, [], ◌∷◌, ◌++◌, length, Option, Some, None, refl, sym, ap, ◌∙◌, subst, arith, map}
 use Rattle.std.specs.List.{list_all, AllByRecursion}
 use Rattle.std.specs.Str.{bytes_eq}
-use Rattle.std.proofs.lemmas.Bool.{ltb-true, and_parts, and_from, not-true}
-use Rattle.std.proofs.lemmas.List.{length-append}
+use Rattle.std.proofs.lemmas.Bool.{ltb-true, and_parts, and_from, not-true, or_parts}
+use Rattle.std.proofs.lemmas.List.{length-append, length-map}
 use Rattle.std.proofs.lemmas.Slice.Eq.{bytes_eq-Decides}
+use Rattle.plane_geom.proofs.Lists.{all_push, any_map}
 use Rattle.layer_map.specs.declared.refusal.MapRefusal.{MapRefusal}
 use Rattle.layer_map.specs.declared.refusal.MapRefusal.TheVariants.{UnknownWire, Unbounded, TwiceNamed, TooMany}
 use Rattle.layer_map.specs.Names.{is_among, are_distinct}
 use Rattle.layer_map.specs.Grammar.{Statement}
 use Rattle.layer_map.specs.Truth.{is_unbounded, formula_of}
-use Rattle.layer_map.specs.Plan.{Wire, Cut, Fet, LabelWires, Plan, number_of, AreNumbers, IsKeptCut, IsKeptFet, IsKept}
+use Rattle.layer_map.specs.Plan.{Wire, Cut, Fet, LabelWires, Plan, number_of, AreNumbers, IsKeptCut, IsKeptFet, IsKeptMap}
 use Rattle.layer_map.specs.Faults.{passes_limit, uses_unknown, is_twice, has_unbounded, fault_in}
 use Rattle.layer_map.specs.declared.map.WireLine.{WireLine}
 use Rattle.layer_map.specs.declared.map.CutLine.{CutLine}
@@ -18,7 +19,7 @@ use Rattle.layer_map.specs.declared.map.FetLine.{FetLine}
 use Rattle.layer_map.specs.declared.map.LabelLine.{LabelLine}
 use Rattle.layer_map.specs.Views.{wire_seen, cut_seen, fet_seen, label_seen}
 use Rattle.layer_map.specs.Readers.{is_nothing}
-use Rattle.layer_map.proofs.AddingLemmas.{any_by_place, any_map}
+use Rattle.layer_map.proofs.AddingLemmas.{any_by_place}
 
 fault_of : ℕ → Bool → Bool → Bool → Bool → Option MapRefusal
 fault_of number a b c d = if a then Some (TooMany number) else if b then Some (UnknownWire number) else if c then Some (TwiceNamed number) else if d then Some (Unbounded number) else None
@@ -50,18 +51,7 @@ faultless number known s h k l m = fault_by number known s false false false fal
 pub neither_of : (a b : Bool) → a ≡ false → b ≡ false → (a || b) ≡ false
 neither_of a b e f = λ i. e i || f i
 
-pub second_of : (a b : Bool) → b ≡ true → (a || b) ≡ true
-second_of true b h = refl
-second_of false b h = h
-
-pub first_or : (a b : Bool) → a ≡ true → (a || b) ≡ true
-first_or a b h = ap (λ t. t || b) h
-
 -- ---- what a map keeps
-
-all_more : {A : Type 0} (P : A → Type 0) (xs : List A) (x : A) → AllByRecursion P xs → P x → AllByRecursion P (xs ++ (x ∷ []))
-all_more P [] x h p = (p, tt)
-all_more P (y ∷ ys) x h p = (h.0, all_more P ys x h.1 p)
 
 all_weaker : {A : Type 0} (P Q : A → Type 0) (xs : List A) → ((x : A) → P x → Q x) → AllByRecursion P xs → AllByRecursion Q xs
 all_weaker P Q [] f h = tt
@@ -70,23 +60,23 @@ all_weaker P Q (x ∷ xs) f h = (f x h.0, all_weaker P Q xs f h.1)
 numbers_wider : (m n : ℕ) → m ≤ n → (xs : List ℕ) → AreNumbers m xs → AreNumbers n xs
 numbers_wider m n le xs h = record { some = h.some; known = all_weaker (λ w. w < m) (λ w. w < n) xs (λ x k. omega arith) h.known }
 
-pub kept_wire : (p : Plan) (w : Wire) → IsKept p → length p.wires < 16 → is_unbounded w.formula ≡ false → IsKept (record p { wires = p.wires ++ (w ∷ []) })
+pub kept_wire : (p : Plan) (w : Wire) → IsKeptMap p → length p.wires < 16 → is_unbounded w.formula ≡ false → IsKeptMap (record p { wires = p.wires ++ (w ∷ []) })
 kept_wire p w h few bounded =
     let longer : length p.wires ≤ length (p.wires ++ (w ∷ [])) = omega (arith, length-append p.wires (w ∷ [])) in
     record {
       few = omega (arith, length-append p.wires (w ∷ []));
-      wires = all_more (λ (x : Wire). is_unbounded x.formula ≡ false) p.wires w h.wires bounded;
+      wires = all_push (λ (x : Wire). is_unbounded x.formula ≡ false) p.wires w h.wires bounded;
       cuts = all_weaker _ _ p.cuts (λ c k. record { bounded = k.bounded; wires = numbers_wider _ _ longer c.wires k.wires }) h.cuts;
       fets = all_weaker _ _ p.fets (λ f k. record { bounded = k.bounded; gate = omega (arith, k.gate, longer); diff = omega (arith, k.diff, longer) }) h.fets;
       labels = all_weaker _ _ p.labels (λ l k. numbers_wider _ _ longer l.wires k) h.labels;
       once = h.once;
     }
 
-pub kept_cut : (p : Plan) (c : Cut) → IsKept p → IsKeptCut (length p.wires) c → IsKept (record p { cuts = p.cuts ++ (c ∷ []) })
-kept_cut p c h k = record { few = h.few; wires = h.wires; cuts = all_more (IsKeptCut (length p.wires)) p.cuts c h.cuts k; fets = h.fets; labels = h.labels; once = h.once }
+pub kept_cut : (p : Plan) (c : Cut) → IsKeptMap p → IsKeptCut (length p.wires) c → IsKeptMap (record p { cuts = p.cuts ++ (c ∷ []) })
+kept_cut p c h k = record { few = h.few; wires = h.wires; cuts = all_push (IsKeptCut (length p.wires)) p.cuts c h.cuts k; fets = h.fets; labels = h.labels; once = h.once }
 
-pub kept_fet : (p : Plan) (f : Fet) → IsKept p → IsKeptFet (length p.wires) f → IsKept (record p { fets = p.fets ++ (f ∷ []) })
-kept_fet p f h k = record { few = h.few; wires = h.wires; cuts = h.cuts; fets = all_more (IsKeptFet (length p.wires)) p.fets f h.fets k; labels = h.labels; once = h.once }
+pub kept_fet : (p : Plan) (f : Fet) → IsKeptMap p → IsKeptFet (length p.wires) f → IsKeptMap (record p { fets = p.fets ++ (f ∷ []) })
+kept_fet p f h k = record { few = h.few; wires = h.wires; cuts = h.cuts; fets = all_push (IsKeptFet (length p.wires)) p.fets f h.fets k; labels = h.labels; once = h.once }
 
 not_same : (x y : List ℕ) → bytes_eq x y ≡ false → bytes_eq y x ≡ false
 not_same x y h = go (bytes_eq y x) refl
@@ -94,10 +84,6 @@ not_same x y h = go (bytes_eq y x) refl
     go : (t : Bool) → bytes_eq y x ≡ t → t ≡ false
     go false e = refl
     go true e = let same : bytes_eq x y ≡ true = (bytes_eq-Decides x y).1 (sym ((bytes_eq-Decides y x).0 e)) in cc
-
-or_parts : (a b : Bool) → (a || b) ≡ false → (a ≡ false) × (b ≡ false)
-or_parts true b h = cc
-or_parts false b h = (refl, h)
 
 among_more : (x n : List ℕ) (names : List (List ℕ)) → is_among x names ≡ false → bytes_eq n x ≡ false → is_among x (names ++ (n ∷ [])) ≡ false
 among_more x n [] h k = neither_of (bytes_eq n x) false k refl
@@ -114,20 +100,20 @@ map_more : {A B : Type 0} (f : A → B) (xs : List A) (x : A) → map f (xs ++ (
 map_more f [] x = refl
 map_more f (y ∷ ys) x = ap (λ zs. f y ∷ zs) (map_more f ys x)
 
-pub kept_label : (p : Plan) (l : LabelWires) → IsKept p → AreNumbers (length p.wires) l.wires → is_among l.layer (map (λ x. x.layer) p.labels) ≡ false → IsKept (record p { labels = p.labels ++ (l ∷ []) })
+pub kept_label : (p : Plan) (l : LabelWires) → IsKeptMap p → AreNumbers (length p.wires) l.wires → is_among l.layer (map (λ x. x.layer) p.labels) ≡ false → IsKeptMap (record p { labels = p.labels ++ (l ∷ []) })
 kept_label p l h k once = record {
   few = h.few;
   wires = h.wires;
   cuts = h.cuts;
   fets = h.fets;
-  labels = all_more (λ (x : LabelWires). AreNumbers (length p.wires) x.wires) p.labels l h.labels k;
+  labels = all_push (λ (x : LabelWires). AreNumbers (length p.wires) x.wires) p.labels l h.labels k;
   once = ap are_distinct (map_more (λ (x : LabelWires). x.layer) p.labels l) ∙ distinct_more (map (λ x. x.layer) p.labels) l.layer h.once once;
 }
 
 -- ---- numbers of known wires are in range
 
 pub number_known : (wires : List Wire) (n : List ℕ) → is_among n (map (λ w. w.name) wires) ≡ true → number_of wires n < length wires
-number_known wires n h = ltb-true _ _ (sym (any_by_place (λ (w : Wire). bytes_eq w.name n) wires) ∙ sym (any_map (λ (w : Wire). w.name) (λ other. bytes_eq other n) wires) ∙ h)
+number_known wires n h = ltb-true _ _ (sym (any_by_place (λ (w : Wire). bytes_eq w.name n) wires) ∙ sym (any_map (λ other. bytes_eq other n) (λ (w : Wire). w.name) wires) ∙ h)
 
 pub numbers_known : (wires : List Wire) (names : List (List ℕ)) → list_all (λ n. is_among n (map (λ w. w.name) wires)) names ≡ true → AllByRecursion (λ k. k < length wires) (map (number_of wires) names)
 numbers_known wires [] h = tt
@@ -135,23 +121,19 @@ numbers_known wires (n ∷ ns) h = let all = and_parts (is_among n (map (λ w. w
 
 -- ---- the same of what the code holds
 
-map_length : {A B : Type 0} (f : A → B) (xs : List A) → length (map f xs) ≡ length xs
-map_length f [] = refl
-map_length f (x ∷ xs) = let h = map_length f xs in omega (arith, h)
-
-pub kept_with_wire : (items new : List WireLine) (w : WireLine) (p : Plan) → p.wires ≡ map wire_seen items → new ≡ items ++ (w ∷ []) → IsKept p → length items < 16 → is_unbounded (formula_of w.expr) ≡ false → IsKept (record p { wires = map wire_seen new })
+pub kept_with_wire : (items new : List WireLine) (w : WireLine) (p : Plan) → p.wires ≡ map wire_seen items → new ≡ items ++ (w ∷ []) → IsKeptMap p → length items < 16 → is_unbounded (formula_of w.expr) ≡ false → IsKeptMap (record p { wires = map wire_seen new })
 kept_with_wire items new w p is e h few bounded =
-    let size : length p.wires ≡ length items = ap length is ∙ map_length wire_seen items in
-    subst (λ ws. IsKept (record p { wires = ws })) (ap (λ xs. xs ++ (wire_seen w ∷ [])) is ∙ sym (map_more wire_seen items w) ∙ ap (map wire_seen) (sym e)) (kept_wire p (wire_seen w) h (omega (arith, size, few)) bounded)
+    let size : length p.wires ≡ length items = ap length is ∙ length-map items wire_seen in
+    subst (λ ws. IsKeptMap (record p { wires = ws })) (ap (λ xs. xs ++ (wire_seen w ∷ [])) is ∙ sym (map_more wire_seen items w) ∙ ap (map wire_seen) (sym e)) (kept_wire p (wire_seen w) h (omega (arith, size, few)) bounded)
 
-pub kept_with_cut : (items new : List CutLine) (c : CutLine) (p : Plan) → p.cuts ≡ map cut_seen items → new ≡ items ++ (c ∷ []) → IsKept p → IsKeptCut (length p.wires) (cut_seen c) → IsKept (record p { cuts = map cut_seen new })
-kept_with_cut items new c p is e h k = subst (λ ws. IsKept (record p { cuts = ws })) (ap (λ xs. xs ++ (cut_seen c ∷ [])) is ∙ sym (map_more cut_seen items c) ∙ ap (map cut_seen) (sym e)) (kept_cut p (cut_seen c) h k)
+pub kept_with_cut : (items new : List CutLine) (c : CutLine) (p : Plan) → p.cuts ≡ map cut_seen items → new ≡ items ++ (c ∷ []) → IsKeptMap p → IsKeptCut (length p.wires) (cut_seen c) → IsKeptMap (record p { cuts = map cut_seen new })
+kept_with_cut items new c p is e h k = subst (λ ws. IsKeptMap (record p { cuts = ws })) (ap (λ xs. xs ++ (cut_seen c ∷ [])) is ∙ sym (map_more cut_seen items c) ∙ ap (map cut_seen) (sym e)) (kept_cut p (cut_seen c) h k)
 
-pub kept_with_fet : (items new : List FetLine) (c : FetLine) (p : Plan) → p.fets ≡ map fet_seen items → new ≡ items ++ (c ∷ []) → IsKept p → IsKeptFet (length p.wires) (fet_seen c) → IsKept (record p { fets = map fet_seen new })
-kept_with_fet items new c p is e h k = subst (λ ws. IsKept (record p { fets = ws })) (ap (λ xs. xs ++ (fet_seen c ∷ [])) is ∙ sym (map_more fet_seen items c) ∙ ap (map fet_seen) (sym e)) (kept_fet p (fet_seen c) h k)
+pub kept_with_fet : (items new : List FetLine) (c : FetLine) (p : Plan) → p.fets ≡ map fet_seen items → new ≡ items ++ (c ∷ []) → IsKeptMap p → IsKeptFet (length p.wires) (fet_seen c) → IsKeptMap (record p { fets = map fet_seen new })
+kept_with_fet items new c p is e h k = subst (λ ws. IsKeptMap (record p { fets = ws })) (ap (λ xs. xs ++ (fet_seen c ∷ [])) is ∙ sym (map_more fet_seen items c) ∙ ap (map fet_seen) (sym e)) (kept_fet p (fet_seen c) h k)
 
-pub kept_with_label : (items new : List LabelLine) (c : LabelLine) (p : Plan) → p.labels ≡ map label_seen items → new ≡ items ++ (c ∷ []) → IsKept p → AreNumbers (length p.wires) (label_seen c).wires → is_among (label_seen c).layer (map (λ x. x.layer) p.labels) ≡ false → IsKept (record p { labels = map label_seen new })
-kept_with_label items new c p is e h k once = subst (λ ws. IsKept (record p { labels = ws })) (ap (λ xs. xs ++ (label_seen c ∷ [])) is ∙ sym (map_more label_seen items c) ∙ ap (map label_seen) (sym e)) (kept_label p (label_seen c) h k once)
+pub kept_with_label : (items new : List LabelLine) (c : LabelLine) (p : Plan) → p.labels ≡ map label_seen items → new ≡ items ++ (c ∷ []) → IsKeptMap p → AreNumbers (length p.wires) (label_seen c).wires → is_among (label_seen c).layer (map (λ x. x.layer) p.labels) ≡ false → IsKeptMap (record p { labels = map label_seen new })
+kept_with_label items new c p is e h k once = subst (λ ws. IsKeptMap (record p { labels = ws })) (ap (λ xs. xs ++ (label_seen c ∷ [])) is ∙ sym (map_more label_seen items c) ∙ ap (map label_seen) (sym e)) (kept_label p (label_seen c) h k once)
 
 -- a list of numbers of known wires
 pub are_numbers : (wires : List Wire) (names : List (List ℕ)) (numbers : List ℕ) → is_nothing names ≡ false → list_all (λ n. is_among n (map (λ w. w.name) wires)) names ≡ true → numbers ≡ map (number_of wires) names → AreNumbers (length wires) numbers

@@ -1,10 +1,11 @@
 -- Where lines end.
-use Rattle.std.proofs.Common.{◌≡◌, ℕ, zero, suc, ◌+◌, ◌-◌, ◌<◌, ◌≤◌, Bool, true, false, cond, if◌then◌else◌, not, ◌&&◌, List, [], ◌∷◌, ◌++◌, length, take, drop, Option, Some, None, refl, sym, ap, ◌∙◌, arith, ◌==◌, one-add}
+use Rattle.std.proofs.Common.{◌≡◌, ℕ, suc, ◌+◌, ◌-◌, ◌<◌, ◌≤◌, Bool, true, false, cond, if◌then◌else◌, not, ◌&&◌, List, [], ◌∷◌, ◌++◌, length, take, drop, Option, Some, None, refl, sym, ap, ◌∙◌, arith, ◌==◌}
 use Rattle.std.specs.Prelude.{nat_lt, position}
 use Rattle.std.specs.List.{position_or_len}
 use Rattle.std.proofs.lemmas.Bool.{ltb-true, ltb-false}
-use Rattle.std.proofs.lemmas.List.{length-drop, take_all}
-use Rattle.layer_map.specs.Lines.{lines_of, onto_first, begins_with}
+use Rattle.plane_geom.specs.Texts.{begins_with}
+use Rattle.layer_map.specs.Lines.{lines_of, onto_first}
+use Rattle.layer_map.proofs.WordLemmas.{take_later, all_behind}
 use Rattle.layer_map.specs.Readers.{without_cr, is_none_left, first_of}
 
 -- ---- a CR at the end
@@ -45,9 +46,6 @@ cr_none (b ∷ bs) h = absurd (omega arith)
 end_of : List ℕ → ℕ
 end_of bytes = position_or_len (λ b. b == 10) bytes
 
-later : (c : ℕ) (n : ℕ) (cs : List ℕ) → take (1 + n) (c ∷ cs) ≡ c ∷ take n cs
-later c n cs = ap (λ m. take m (c ∷ cs)) (one-add n)
-
 behind_later : (c : ℕ) (n : ℕ) (cs : List ℕ) → drop (1 + n + 1) (c ∷ cs) ≡ drop (n + 1) cs
 behind_later c n cs = let e : 1 + n + 1 ≡ suc (n + 1) = omega arith in ap (λ m. drop m (c ∷ cs)) e
 
@@ -64,13 +62,13 @@ no_end b false line xs lines e = ap (onto_first b) e
 second : (b c : ℕ) (cs : List ℕ) (v : Bool) → (c == 10) ≡ v → (lines_of (c ∷ cs) ≡ without_cr (take (cond (not v) (1 + position_or_len (λ b. b == 10) cs) 0) (c ∷ cs)) ∷ lines_of (drop (cond (not v) (1 + position_or_len (λ b. b == 10) cs) 0 + 1) (c ∷ cs))) →
     (if (b == 13) && v then lines_of (c ∷ cs) else onto_first b (lines_of (c ∷ cs))) ≡ (if (b == 13) && is_none_left (take (cond (not v) (1 + position_or_len (λ b. b == 10) cs) 0) (c ∷ cs)) then [] else b ∷ without_cr (take (cond (not v) (1 + position_or_len (λ b. b == 10) cs) 0) (c ∷ cs))) ∷ lines_of (drop (cond (not v) (1 + position_or_len (λ b. b == 10) cs) 0 + 1) (c ∷ cs))
 second b c cs true e h = ap (λ xs. if (b == 13) && true then xs else onto_first b xs) h ∙ at_end b (b == 13) (lines_of cs)
-second b c cs false e h = no_end b (b == 13) (without_cr (take (1 + position_or_len (λ b. b == 10) cs) (c ∷ cs))) (lines_of (c ∷ cs)) _ h ∙ ap (λ n. (if (b == 13) && n then [] else b ∷ without_cr (take (1 + position_or_len (λ b. b == 10) cs) (c ∷ cs))) ∷ lines_of (drop (1 + position_or_len (λ b. b == 10) cs + 1) (c ∷ cs))) (sym (ap is_none_left (later c (position_or_len (λ b. b == 10) cs) cs)))
+second b c cs false e h = no_end b (b == 13) (without_cr (take (1 + position_or_len (λ b. b == 10) cs) (c ∷ cs))) (lines_of (c ∷ cs)) _ h ∙ ap (λ n. (if (b == 13) && n then [] else b ∷ without_cr (take (1 + position_or_len (λ b. b == 10) cs) (c ∷ cs))) ∷ lines_of (drop (1 + position_or_len (λ b. b == 10) cs + 1) (c ∷ cs))) (sym (ap is_none_left (take_later c (position_or_len (λ b. b == 10) cs) cs)))
 
 IsCut : List ℕ → ℕ → Type 0
 IsCut bytes n = lines_of bytes ≡ without_cr (take n bytes) ∷ lines_of (drop (n + 1) bytes)
 
 one_on : (b : ℕ) (n : ℕ) (bs : List ℕ) → lines_of (b ∷ bs) ≡ (if (b == 13) && is_none_left (take n bs) then [] else b ∷ without_cr (take n bs)) ∷ lines_of (drop (n + 1) bs) → lines_of (b ∷ bs) ≡ without_cr (take (1 + n) (b ∷ bs)) ∷ lines_of (drop (1 + n + 1) (b ∷ bs))
-one_on b n bs h = h ∙ λ i. without_cr (sym (later b n bs) i) ∷ lines_of (sym (behind_later b n bs) i)
+one_on b n bs h = h ∙ λ i. without_cr (sym (take_later b n bs) i) ∷ lines_of (sym (behind_later b n bs) i)
 
 first : (b : ℕ) (bs : List ℕ) (t : Bool) → (b == 10) ≡ t → cond (not t) (1 + position_or_len (λ b. b == 10) bs) 0 < suc (length bs) → (position_or_len (λ b. b == 10) bs < length bs → lines_of bs ≡ without_cr (take (position_or_len (λ b. b == 10) bs) bs) ∷ lines_of (drop (position_or_len (λ b. b == 10) bs + 1) bs)) →
     lines_of (b ∷ bs) ≡ without_cr (take (cond (not t) (1 + position_or_len (λ b. b == 10) bs) 0) (b ∷ bs)) ∷ lines_of (drop (cond (not t) (1 + position_or_len (λ b. b == 10) bs) 0 + 1) (b ∷ bs))
@@ -111,9 +109,6 @@ none_case : (bytes : List ℕ) (t : Bool) → nat_lt (position_or_len (λ b. b =
 none_case bytes true e h = absurd (cc)
 none_case bytes false e h = ltb-false _ _ e
 
-all_behind : (bytes : List ℕ) (n : ℕ) → take (length bytes - n) (drop n bytes) ≡ drop n bytes
-all_behind bytes n = take_all (length bytes - n) (drop n bytes) (omega (arith, length-drop n bytes))
-
 pub read_line : (bytes line : List ℕ) (n : ℕ) → ◌≡◌ {A = Option ℕ} (Some n) (position (λ b. b == 10) bytes) → line ≡ without_cr (take n bytes) → ◌≡◌ {A = Option (List ℕ × List (List ℕ))} (Some (line, lines_of (take (length bytes - (n + 1)) (drop (n + 1) bytes)))) (first_of (lines_of bytes))
 read_line bytes line n at is =
     let found = position_case bytes (nat_lt (position_or_len (λ b. b == 10) bytes) (length bytes)) n refl at in
@@ -123,7 +118,3 @@ pub read_last_line : (bytes : List ℕ) → 0 < length bytes → ◌≡◌ {A = 
 read_last_line bytes some at =
     let nothing_behind : take (length bytes - length bytes) (drop (length bytes) bytes) ≡ [] = let e : length bytes - length bytes ≡ 0 = omega arith in ap (λ m. take m (drop (length bytes) bytes)) e in
     (λ i. Some (bytes, lines_of (nothing_behind i))) ∙ ap first_of (sym (last_line bytes some (none_case bytes (nat_lt (position_or_len (λ b. b == 10) bytes) (length bytes)) refl at)))
-
-pub positive : (n : ℕ) → false ≡ (n == 0) → 0 < n
-positive zero h = cc
-positive (suc n) h = omega arith

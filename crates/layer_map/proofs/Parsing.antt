@@ -2,12 +2,14 @@
 use Rattle.std.proofs.Common.{◌≡◌, ℕ, ◌+◌, ◌-◌, ◌<◌, ◌≤◌, Bool, true, false, if◌then◌else◌, not, ◌&&◌, ◌||◌, List, [], ◌∷◌, ◌++◌, length, codes, Option, Some, None, option_map, refl, sym, ap, ◌∙◌, subst, arith, ◌==◌, append_assoc}
 use Rattle.std.specs.Str.{bytes_eq}
 use Rattle.std.proofs.lemmas.Bool.{and_parts, and_from, eqb-true, eqb-false, ne_eqb}
+use Rattle.plane_geom.proofs.Options.{bind_some, map_some}
+use Rattle.plane_geom.specs.Texts.{◌>>=◌}
 use Rattle.plane_geom.specs.Names.{is_short}
 use Rattle.layer_map.specs.declared.expressions.Scan.{Scan}
 use Rattle.layer_map.specs.Building.{EndsSum}
 use Rattle.layer_map.specs.Grammar.{Factor, of_layer, inverse, group, product, Factors, no_factor, times, Sum, sum_of, Products, no_product, plus, factor_words, factors_words, sum_words, products_words, names_factor, names_factors, names_sum, names_products, layers_factor, layers_factors, layers_in, layers_products}
-use Rattle.layer_map.specs.Readers.{◌>>=◌, first_of, Level, Tail, no_level, level_sum, inverted, grouped, grouped_in, one_more_factor, one_more_product, closed, want, have, parse, tree_of, tree_in, is_done, factor_step, other_step, step, scan}
-use Rattle.layer_map.proofs.Steps.{bind_some, map_some, bytes_are, apart}
+use Rattle.layer_map.specs.Readers.{first_of, Level, Tail, no_level, level_sum, inverted, grouped, grouped_in, one_more_factor, one_more_product, closed, want, have, parse, tree_of, tree_in, is_done, factor_step, other_step, step, scan}
+use Rattle.layer_map.proofs.Steps.{bytes_are, apart}
 
 -- ---- the words of a tail
 
@@ -87,13 +89,13 @@ layer_front w ws d t e h = record {
 wanted : (w : List ℕ) (ws : List (List ℕ)) (d : ℕ) (a b e : Bool) (y : Factor × Tail) → bytes_eq w (codes "!") ≡ a → bytes_eq w (codes "(") ≡ b → is_short w ≡ e → ((k : ℕ) (x : Factor × Tail) → want ws k ≡ Some x → IsFront ws k x) → ((k : ℕ) (t : Tail) → have ws k ≡ Some t → IsTail ws [] k t) →
     (if a then option_map inverted (want ws d) else if b then (want ws (d + 1) >>= grouped) else if e then option_map (λ t. (of_layer w, t)) (have ws d) else None) ≡ Some y → IsFront (w ∷ ws) d y
 wanted w ws d true b e y ea eb ee f g h =
-    let got = map_some (want ws d) inverted y h in
+    let got = map_some inverted (want ws d) y h in
     subst (IsFront (w ∷ ws) d) got.2 (inverted_front w ws d got.0 ea (f d got.0 got.1))
 wanted w ws d false true e y ea eb ee f g h =
     let got = bind_some (want ws (d + 1)) grouped y h in
     grouped_front w ws d got.0 got.0.1.outer y refl eb (f (d + 1) got.0 got.1) got.2
 wanted w ws d false false true y ea eb ee f g h =
-    let got = map_some (have ws d) (λ t. (of_layer w, t)) y h in
+    let got = map_some (λ t. (of_layer w, t)) (have ws d) y h in
     subst (IsFront (w ∷ ws) d) got.2 (layer_front w ws d got.0 ee (g d got.0 got.1))
 wanted w ws d false false false y ea eb ee f g h = cc
 
@@ -138,17 +140,17 @@ closed_tail w ws d t e z h = record {
 had : (w : List ℕ) (ws : List (List ℕ)) (d : ℕ) (a b z e : Bool) (y : Tail) → bytes_eq w (codes "*") ≡ a → bytes_eq w (codes "+") ≡ b → (d == 0) ≡ z → bytes_eq w (codes ")") ≡ e → ((k : ℕ) (x : Factor × Tail) → want ws k ≡ Some x → IsFront ws k x) → ((k : ℕ) (t : Tail) → have ws k ≡ Some t → IsTail ws [] k t) →
     (if a then option_map one_more_factor (want ws d) else if b then option_map one_more_product (want ws d) else if z then Some (record { level = no_level; outer = []; rest = w ∷ ws }) else if e then option_map closed (have ws (d - 1)) else None) ≡ Some y → IsTail (w ∷ ws) [] d y
 had w ws d true b z e y ea eb ez ee f g h =
-    let got = map_some (want ws d) one_more_factor y h in
+    let got = map_some one_more_factor (want ws d) y h in
     subst (IsTail (w ∷ ws) [] d) got.2 (more_factor w ws d got.0 ea (f d got.0 got.1))
 had w ws d false true z e y ea eb ez ee f g h =
-    let got = map_some (want ws d) one_more_product y h in
+    let got = map_some one_more_product (want ws d) y h in
     subst (IsTail (w ∷ ws) [] d) got.2 (more_product w ws d got.0 eb (f d got.0 got.1))
 had w ws d false false true e y ea eb ez ee f g h =
     let same : record { level = no_level; outer = []; rest = w ∷ ws } ≡ y = cc in
     let stops : EndsSum (w ∷ ws) = record { factors = ap (λ u. if u then Some ws else None) ea; products = ap (λ u. if u then Some ws else None) eb } in
     subst (IsTail (w ∷ ws) [] d) same (at_rest (w ∷ ws) d (eqb-true d 0 ez) stops)
 had w ws d false false false true y ea eb ez ee f g h =
-    let got = map_some (have ws (d - 1)) closed y h in
+    let got = map_some closed (have ws (d - 1)) y h in
     subst (IsTail (w ∷ ws) [] d) got.2 (closed_tail w ws d got.0 ee ez (g (d - 1) got.0 got.1))
 had w ws d false false false false y ea eb ez ee f g h = cc
 
@@ -275,14 +277,11 @@ pub record IsParsed (ws : List (List ℕ)) (s : Sum) (rest : List (List ℕ)) : 
   pub named : names_sum s ≡ true
   pub ends : EndsSum rest
 
-parsed_whole : (f fs ps rest : List (List ℕ)) → f ++ ((fs ++ ps) ++ rest) ≡ ((f ++ fs) ++ ps) ++ rest
-parsed_whole f fs ps rest = simp append_assoc
-
 parsed_front : (ws : List (List ℕ)) (x : Factor × Tail) (outer : List Level) → x.1.outer ≡ outer → length outer ≡ 0 → IsFront ws 0 x → IsParsed ws (level_sum x.0 x.1.level) x.1.rest
 parsed_front ws x [] o e h =
     let inner = and_parts (names_factors x.1.level.factors) (names_products x.1.level.products) h.tail.level_is in
     record {
-      whole = h.tail.whole ∙ (λ i. factor_words x.0 ++ (level_words x.1.level ++ outer_words (o i) x.1.rest)) ∙ parsed_whole (factor_words x.0) (factors_words x.1.level.factors) (products_words x.1.level.products) x.1.rest;
+      whole = h.tail.whole ∙ (λ i. factor_words x.0 ++ (level_words x.1.level ++ outer_words (o i) x.1.rest)) ∙ factor_whole (factor_words x.0) (factors_words x.1.level.factors) (products_words x.1.level.products) x.1.rest;
       named = and_from _ _ (and_from _ _ h.named inner.0) inner.1;
       ends = h.tail.ends;
     }
@@ -290,7 +289,7 @@ parsed_front ws x (l ∷ ls) o e h = absurd (omega arith)
 
 pub parse_takes : (ws : List (List ℕ)) (s : Sum) (rest : List (List ℕ)) → parse ws ≡ Some (s, rest) → IsParsed ws s rest
 parse_takes ws s rest h =
-    let got = map_some (want ws 0) (λ x. (level_sum x.0 x.1.level, x.1.rest)) (s, rest) h in
+    let got = map_some (λ x. (level_sum x.0 x.1.level, x.1.rest)) (want ws 0) (s, rest) h in
     let front = want_takes ws 0 got.0 got.1 in
     let read = parsed_front ws got.0 got.0.1.outer refl front.tail.deep front in
     subst (λ (y : Sum × List (List ℕ)). IsParsed ws y.0 y.1) got.2 read
@@ -393,7 +392,7 @@ read_at ws rest n x [] o e h k =
 
 pub scan_read : (ws rest : List (List ℕ)) (n : ℕ) → scan ws (at true 0 0) ≡ Some (n, rest) → IsRead ws n rest
 scan_read ws rest n h =
-    let got = map_some (want ws 0) (counted 0) (n, rest) (sym (scan_want ws 0 0) ∙ h) in
+    let got = map_some (counted 0) (want ws 0) (n, rest) (sym (scan_want ws 0 0) ∙ h) in
     read_at ws rest n got.0 got.0.1.outer refl (want_takes ws 0 got.0 got.1).tail.deep got.1 got.2
 
 none_mapped : (o : Option (Factor × Tail)) → option_map (counted 0) o ≡ None → option_map {U = Sum × List (List ℕ)} (λ (x : Factor × Tail). (level_sum x.0 x.1.level, x.1.rest)) o ≡ None

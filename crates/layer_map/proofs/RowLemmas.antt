@@ -4,16 +4,18 @@ use Rattle.std.specs.List.{list_all}
 use Rattle.std.specs.Str.{bytes_eq}
 use Rattle.std.proofs.lemmas.Bool.{and_parts, and_from}
 use Rattle.std.proofs.lemmas.List.{append-nil}
-use Rattle.plane_geom.specs.Names.{is_short}
+use Rattle.plane_geom.proofs.Options.{bind_some, guarded}
+use Rattle.plane_geom.specs.Texts.{◌>>=◌}
+use Rattle.plane_geom.specs.Names.{is_short, is_name}
 use Rattle.switch_net.specs.declared.Kind.{Kind}
 use Rattle.switch_net.specs.declared.Kind.TheVariants.{N, P}
 use Rattle.layer_map.specs.declared.refusal.Side.{Side}
 use Rattle.layer_map.specs.declared.refusal.Side.TheVariants.{High, Low}
-use Rattle.layer_map.specs.Names.{is_wire_name, is_name}
-use Rattle.layer_map.specs.Words.{words_of, is_skipped, is_supply, begins_supply}
+use Rattle.layer_map.specs.Names.{is_wire_name}
+use Rattle.layer_map.specs.Words.{words_of, is_skipped, is_supply_line, begins_supply}
 use Rattle.layer_map.specs.Grammar.{Sum, sum_words, names_sum, Statement, nothing, wire, cut, fet, label, supply, kind_word, side_word, AreWires, HasWords, SpellsLine}
-use Rattle.layer_map.specs.Readers.{◌>>=◌, first_of, behind, parse, is_nothing, are_wires, wire_at, cut_at, kind_at, terminals_at, fet_at, label_at, supply_at, row_at, said_at}
-use Rattle.layer_map.proofs.Steps.{bind_some, guarded, bytes_are, are_bytes}
+use Rattle.layer_map.specs.Readers.{first_of, behind, parse, is_nothing, are_wires, wire_at, cut_at, kind_at, terminals_at, fet_at, label_at, supply_at, row_at, said_at}
+use Rattle.layer_map.proofs.Steps.{bytes_are, are_bytes}
 use Rattle.layer_map.proofs.Parsing.{parse_takes, parse_again}
 
 tested : {A : Type 0} (t : Bool) (o : Option A) (y : A) → (if t then o else None) ≡ Some y → (t ≡ true) × (o ≡ Some y)
@@ -95,12 +97,12 @@ kind_again N = refl
 kind_again P = refl
 
 -- the wires of a transistor
-pub record AreEnds (ws : List (List ℕ)) (gate diff : List ℕ) : Type 0 where
+pub record AreTerminals (ws : List (List ℕ)) (gate diff : List ℕ) : Type 0 where
   pub whole : ws ≡ codes "gate" ∷ gate ∷ codes "diff" ∷ diff ∷ []
   pub gate_named : is_wire_name gate ≡ true
   pub diff_named : is_wire_name diff ≡ true
 
-ends_take : (ws : List (List ℕ)) (gate diff : List ℕ) → terminals_at ws ≡ Some (gate, diff) → AreEnds ws gate diff
+ends_take : (ws : List (List ℕ)) (gate diff : List ℕ) → terminals_at ws ≡ Some (gate, diff) → AreTerminals ws gate diff
 unfolding terminals_at
 ends_take ws gate diff e =
     let a = bind_some (behind (codes "gate") ws) (λ at_gate. first_of at_gate >>= λ g. behind (codes "diff") g.1 >>= λ at_diff. first_of at_diff >>= λ d. if is_wire_name g.0 && is_wire_name d.0 && is_nothing d.1 then Some (g.0, d.0) else None) (gate, diff) e in
@@ -111,7 +113,7 @@ ends_take ws gate diff e =
     let all = and_parts (is_wire_name b.0.0 && is_wire_name d.0.0) (is_nothing d.0.1) last.0 in
     let names = and_parts (is_wire_name b.0.0) (is_wire_name d.0.0) all.0 in
     let whole : ws ≡ codes "gate" ∷ b.0.0 ∷ codes "diff" ∷ d.0.0 ∷ [] = behind_is (codes "gate") ws a.0 a.1 ∙ ap (λ t. codes "gate" ∷ t) (first_again a.0 b.0.1 b.0.0 b.1 ∙ ap (λ t. b.0.0 ∷ t) (behind_is (codes "diff") b.0.1 c.0 c.1 ∙ ap (λ t. codes "diff" ∷ t) (first_again c.0 d.0.1 d.0.0 d.1 ∙ ap (λ t. d.0.0 ∷ t) (nothing_is d.0.1 all.1)))) in
-    subst (λ (y : List ℕ × List ℕ). AreEnds ws y.0 y.1) last.1 (record { whole = whole; gate_named = names.0; diff_named = names.1 })
+    subst (λ (y : List ℕ × List ℕ). AreTerminals ws y.0 y.1) last.1 (record { whole = whole; gate_named = names.0; diff_named = names.1 })
 
 ends_again : (gate diff : List ℕ) → is_wire_name gate ≡ true → is_wire_name diff ≡ true → terminals_at (codes "gate" ∷ gate ∷ codes "diff" ∷ diff ∷ []) ≡ Some (gate, diff)
 unfolding terminals_at
@@ -153,7 +155,7 @@ side_is : (w : List ℕ) (t : Bool) → bytes_eq w (codes "high") ≡ t → (t |
 side_is w true e h = bytes_are w (codes "high") e
 side_is w false e h = bytes_are w (codes "low") h
 
-supply_takes : (line : List ℕ) (ws : List (List ℕ)) (s : Statement) → is_skipped line ≡ false → is_supply line ≡ true → words_of false line ≡ ws → supply_at ws ≡ Some s → SpellsLine line s
+supply_takes : (line : List ℕ) (ws : List (List ℕ)) (s : Statement) → is_skipped line ≡ false → is_supply_line line ≡ true → words_of false line ≡ ws → supply_at ws ≡ Some s → SpellsLine line s
 unfolding supply_at
 supply_takes line [] s c k h e = cc
 supply_takes line (w ∷ names) s c k h e =
@@ -181,14 +183,14 @@ unfolding row_at
 row_takes line [] s h e = cc
 row_takes line (w ∷ ws) s h e = row_case line w ws s (bytes_eq w (codes "wire")) (bytes_eq w (codes "cut")) (bytes_eq w (codes "fet")) (bytes_eq w (codes "label")) refl refl refl refl h e
 
-line_case : (line : List ℕ) (s : Statement) (a b : Bool) → is_skipped line ≡ a → is_supply line ≡ b → (if a then Some nothing else if b then supply_at (words_of false line) else row_at (words_of true line)) ≡ Some s → SpellsLine line s
+line_case : (line : List ℕ) (s : Statement) (a b : Bool) → is_skipped line ≡ a → is_supply_line line ≡ b → (if a then Some nothing else if b then supply_at (words_of false line) else row_at (words_of true line)) ≡ Some s → SpellsLine line s
 line_case line s true b ea eb e = subst (SpellsLine line) (let same : nothing ≡ s = cc in same) ea
 line_case line s false true ea eb e = supply_takes line (words_of false line) s ea eb refl e
 line_case line s false false ea eb e = row_takes line (words_of true line) s (record { counts = ea; kind = eb; cut_so = refl }) e
 
 pub said_takes : (line : List ℕ) (s : Statement) → said_at line ≡ Some s → SpellsLine line s
 unfolding said_at
-said_takes line s e = line_case line s (is_skipped line) (is_supply line) refl refl e
+said_takes line s e = line_case line s (is_skipped line) (is_supply_line line) refl refl e
 
 read_row : (line : List ℕ) (ws : List (List ℕ)) (s : Statement) → HasWords false true line ws → row_at ws ≡ Some s → said_at line ≡ Some s
 unfolding said_at
@@ -212,7 +214,7 @@ label_row ws = refl
 
 pub said_again : (line : List ℕ) (s : Statement) → SpellsLine line s → said_at line ≡ Some s
 unfolding said_at
-said_again line nothing h = ap (λ t. if t then Some nothing else if is_supply line then supply_at (words_of false line) else row_at (words_of true line)) h
+said_again line nothing h = ap (λ t. if t then Some nothing else if is_supply_line line then supply_at (words_of false line) else row_at (words_of true line)) h
 said_again line (wire name e) h = read_row line _ _ h.words (wire_row (name ∷ sum_words e) ∙ wire_again name e h.named h.layers)
 said_again line (cut e wires) h = read_row line _ _ h.words (cut_row _ ∙ cut_again e wires h.layers h.named)
 said_again line (fet k e gate diff) h = read_row line _ _ h.words (fet_row _ ∙ fet_again k e gate diff h.layers h.gate_named h.diff_named)

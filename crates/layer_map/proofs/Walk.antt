@@ -4,6 +4,7 @@ use Rattle.std.specs.List.{list_any}
 use Rattle.std.specs.Option.{option_or}
 use Rattle.std.proofs.lemmas.Bool.{ne_eqb}
 use Rattle.std.proofs.lemmas.List.{append-nil, length-append}
+use Rattle.plane_geom.proofs.Options.{option_or_none}
 use Rattle.layer_map.specs.declared.refusal.MapRefusal.{MapRefusal}
 use Rattle.layer_map.specs.declared.refusal.MapRefusal.TheVariants.{BadLine, NoSupplyLine}
 use Rattle.layer_map.specs.declared.refusal.Side.TheVariants.{High, Low}
@@ -141,15 +142,11 @@ unfoldable pub answer : List (List ℕ) → List Statement → Outcome
 answer [] said = ending (supply_fault said) (map_of said)
 answer (line ∷ lines) said = after (said_at line) said (answer lines)
 
-first_none : {A : Type 0} (o p : Option A) → option_or o p ≡ None → (o ≡ None) × (p ≡ None)
-first_none None p h = (refl, h)
-first_none (Some x) p h = absurd (let no : Some x ≡ None = h in cc)
-
 walked : (said : List Statement) (front more : List (List ℕ)) → Spells front said → first_fault said ≡ None → answer (front ++ more) [] ≡ answer more said
 unfolding answer after judged
 walked [] front more h e = ap (λ f. answer (f ++ more) []) h
 walked (s ∷ before) front more (f, l, whole, says, sp) e =
-    let none = first_none (first_fault before) (fault_in (length before + 1) (map_of before) s) e in
+    let none = option_or_none (first_fault before) (fault_in (length before + 1) (map_of before) s) e in
     ap (λ x. answer (x ++ more) []) whole ∙ ap (λ x. answer x []) (append_assoc f (l ∷ []) more) ∙ walked before f (l ∷ more) says none.0 ∙ ap (λ o. after o before (answer more)) (said_again l s sp) ∙ ap (λ o. judged o (answer more (s ∷ before))) none.1
 
 accepts_so : (text : List ℕ) (p : Plan) → Accepts text p → answer (lines_of text) [] ≡ accepts p

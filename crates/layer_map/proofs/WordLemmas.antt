@@ -9,7 +9,7 @@ use Rattle.layer_map.specs.Readers.{first_of}
 drop_later : (c : ℕ) (n : ℕ) (cs : List ℕ) → drop (1 + n) (c ∷ cs) ≡ drop n cs
 drop_later c n cs = ap (λ m. drop m (c ∷ cs)) (one-add n)
 
-take_later : (c : ℕ) (n : ℕ) (cs : List ℕ) → take (1 + n) (c ∷ cs) ≡ c ∷ take n cs
+pub take_later : (c : ℕ) (n : ℕ) (cs : List ℕ) → take (1 + n) (c ∷ cs) ≡ c ∷ take n cs
 take_later c n cs = ap (λ m. take m (c ∷ cs)) (one-add n)
 
 -- ---- blanks
@@ -80,7 +80,7 @@ pub no_blank_behind : (bytes : List ℕ) → no_blank (drop (prefix_len is_blank
 no_blank_behind [] = refl
 no_blank_behind (b ∷ bs) = blanks_end b bs (is_blank b) refl (no_blank_behind bs)
 
-all_behind : (bytes : List ℕ) (n : ℕ) → take (length bytes - n) (drop n bytes) ≡ drop n bytes
+pub all_behind : (bytes : List ℕ) (n : ℕ) → take (length bytes - n) (drop n bytes) ≡ drop n bytes
 all_behind bytes n = take_all (length bytes - n) (drop n bytes) (omega (arith, length-drop n bytes))
 
 pub no_word : (signs : Bool) (bytes : List ℕ) (n : ℕ) → n ≡ prefix_len is_blank bytes → length (take (length bytes - n) (drop n bytes)) ≡ 0 → ◌≡◌ {A = Option (List ℕ × List (List ℕ))} None (first_of (words_of signs bytes))

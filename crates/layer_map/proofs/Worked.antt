@@ -9,11 +9,11 @@ use Rattle.layer_map.specs.declared.refusal.MapRefusal.{MapRefusal}
 use Rattle.layer_map.specs.declared.refusal.MapRefusal.TheVariants.{BadLine, UnknownWire, Unbounded, TwiceNamed, NoSupplyLine, TooMany}
 use Rattle.layer_map.specs.declared.refusal.Side.TheVariants.{High, Low}
 use Rattle.layer_map.specs.Lines.{lines_of}
-use Rattle.layer_map.specs.Words.{words_of, is_skipped, is_supply}
-use Rattle.layer_map.specs.Names.{is_wire_name, is_name, are_distinct}
+use Rattle.layer_map.specs.Words.{words_of, is_skipped, is_supply_line}
+use Rattle.layer_map.specs.Names.{is_wire_name, are_distinct}
 use Rattle.layer_map.specs.Grammar.{of_layer, product, no_factor, Sum, sum_of, no_product, layers_in, depth_of, Statement, wire, cut, SpellsLine, Spells}
 use Rattle.layer_map.specs.Truth.{on, neither, both, either, means, holds, is_unbounded}
-use Rattle.layer_map.specs.Plan.{Wire, Plan, map_of, AreNumbers, IsKept}
+use Rattle.layer_map.specs.Plan.{Wire, Plan, map_of, AreNumbers, IsKeptMap}
 use Rattle.layer_map.specs.Faults.{fault_in, first_fault, supply_fault, Refuses}
 use Rattle.layer_map.specs.Readers.{tree_of, said_at, row_at, wire_at, cut_at, fet_at, terminals_at, label_at, supply_at}
 use Rattle.layer_map.proofs.RowLemmas.{said_takes, said_again}
@@ -36,7 +36,7 @@ no_signs = refl
 skipped : map is_skipped (codes "  # cut" ∷ codes "  " ∷ [] ∷ codes "a #" ∷ []) ≡ true ∷ true ∷ true ∷ false ∷ []
 skipped = refl
 
-supplies : map is_supply (codes " high A" ∷ codes "low" ∷ codes "high+Vdd" ∷ codes "higher" ∷ []) ≡ true ∷ true ∷ false ∷ false ∷ []
+supplies : map is_supply_line (codes " high A" ∷ codes "low" ∷ codes "high+Vdd" ∷ codes "higher" ∷ []) ≡ true ∷ true ∷ false ∷ false ∷ []
 supplies = refl
 
 -- Two CRs before an LF: one of them is dropped.
@@ -44,12 +44,8 @@ two_returns : lines_of (13 ∷ 13 ∷ 10 ∷ []) ≡ (13 ∷ []) ∷ []
 two_returns = refl
 
 -- 16 bytes and 17, a digit first, a capital, an underline within
-wire_names : map is_wire_name (codes "abcdefghijklmnop" ∷ codes "abcdefghijklmnopq" ∷ codes "1a" ∷ codes "aB" ∷ codes "a_1" ∷ []) ≡ true ∷ false ∷ false ∷ false ∷ true ∷ []
-wire_names = refl
-
--- signs, a `#` first and within, a `;`, a byte above 126
-supply_names : map is_name (codes "+*!():" ∷ codes "#a" ∷ codes "a#" ∷ codes "a;" ∷ (97 ∷ 127 ∷ []) ∷ []) ≡ true ∷ false ∷ true ∷ false ∷ false ∷ []
-supply_names = refl
+names_of_wires : map is_wire_name (codes "abcdefghijklmnop" ∷ codes "abcdefghijklmnopq" ∷ codes "1a" ∷ codes "aB" ∷ codes "a_1" ∷ []) ≡ true ∷ false ∷ false ∷ false ∷ true ∷ []
+names_of_wires = refl
 
 distinct : map are_distinct ((codes "a" ∷ codes "b" ∷ []) ∷ (codes "a" ∷ codes "b" ∷ codes "a" ∷ []) ∷ [] ∷ []) ≡ true ∷ false ∷ true ∷ []
 distinct = refl
@@ -129,11 +125,11 @@ no_numbers n = omega (arith, n.some)
 one_wire : List ℕ → Plan
 one_wire name = record { wires = record { name = codes "m"; formula = on name } ∷ []; cuts = []; fets = []; labels = []; high = []; low = [] }
 
-kept : IsKept (one_wire (codes "A"))
+kept : IsKeptMap (one_wire (codes "A"))
 unfolding one_wire
 kept = record { few = omega arith; wires = (refl, tt); cuts = tt; fets = tt; labels = tt; once = refl }
 
-not_kept : (p : Plan) → p.wires ≡ record { name = codes "m"; formula = neither (on (codes "A")) } ∷ [] → IsKept p → ⊥
+not_kept : (p : Plan) → p.wires ≡ record { name = codes "m"; formula = neither (on (codes "A")) } ∷ [] → IsKeptMap p → ⊥
 not_kept p e k = let bounded = (subst (AllByRecursion (λ (w : Wire). is_unbounded w.formula ≡ false)) e k.wires).0 in cc
 
 -- ---- whole texts

@@ -10,7 +10,7 @@ use Rattle.layer_map.specs.Lines.{lines_of}
 use Rattle.layer_map.specs.Names.{is_among, are_distinct}
 use Rattle.layer_map.specs.Grammar.{Sum, layers_in, depth_of, Statement, nothing, wire, cut, fet, label, supply, SpellsLine, Spells}
 use Rattle.layer_map.specs.Truth.{is_unbounded, means}
-use Rattle.layer_map.specs.Plan.{Plan, map_of}
+use Rattle.layer_map.specs.Plan.{Plan, map_of, wire_names}
 
 -- ---- the limits
 
@@ -37,9 +37,6 @@ passes_limit known (label layer wires) = nat_lt 64 (length known.labels + 1) || 
 passes_limit known (supply side names) = nat_lt 32 (length (supplies side known) + length names)
 
 -- ---- the other faults of a line
-
-abbrev pub wire_names : Plan → List (List ℕ)
-wire_names known = map (λ w. w.name) known.wires
 
 -- It uses a wire that no line before it names.
 abbrev pub uses_unknown : Plan → Statement → Bool

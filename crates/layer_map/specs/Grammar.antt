@@ -1,13 +1,13 @@
 -- What the lines of a map spell, row by row.
 use Rattle.std.specs.Prelude.{◌≡◌, ℕ, ◌+◌, ◌<◌, Bool, true, false, List, [], ◌∷◌, ◌++◌, length, codes, max, ◌&&◌}
 use Rattle.std.specs.List.{list_all}
-use Rattle.plane_geom.specs.Names.{is_short}
+use Rattle.plane_geom.specs.Names.{is_short, is_name}
 use Rattle.switch_net.specs.declared.Kind.{Kind}
 use Rattle.switch_net.specs.declared.Kind.TheVariants.{N, P}
 use Rattle.layer_map.specs.declared.refusal.Side.{Side}
 use Rattle.layer_map.specs.declared.refusal.Side.TheVariants.{High, Low}
-use Rattle.layer_map.specs.Names.{is_wire_name, is_name}
-use Rattle.layer_map.specs.Words.{words_of, is_skipped, is_supply}
+use Rattle.layer_map.specs.Names.{is_wire_name}
+use Rattle.layer_map.specs.Words.{words_of, is_skipped, is_supply_line}
 
 -- An expression is a term and any number of `+` with a term; a term is a factor and any number of `*` with a factor; a
 -- factor is a layer's name, or `!` and a factor, or an expression in parentheses.
@@ -146,7 +146,7 @@ pub record AreWires (names : List (List ℕ)) : Type 0 where
 -- The line isn't skipped, is a line of supplies or not, and has these words, cut with signs unless it is one of supplies.
 pub record HasWords (supplies : Bool) (signs : Bool) (line : List ℕ) (words : List (List ℕ)) : Type 0 where
   pub counts : is_skipped line ≡ false
-  pub kind : is_supply line ≡ supplies
+  pub kind : is_supply_line line ≡ supplies
   pub cut_so : words_of signs line ≡ words
 
 pub record IsWire (line name : List ℕ) (e : Sum) : Type 0 where

@@ -1,5 +1,6 @@
 -- The lines of a text.
-use Rattle.std.specs.Prelude.{ℕ, Bool, false, List, [], ◌∷◌, ◌&&◌, ◌==◌, if◌then◌else◌}
+use Rattle.std.specs.Prelude.{ℕ, List, [], ◌∷◌, ◌&&◌, ◌==◌, if◌then◌else◌}
+use Rattle.plane_geom.specs.Texts.{begins_with}
 
 abbrev pub line_feed : ℕ
 line_feed = 10
@@ -11,10 +12,6 @@ carriage_return = 13
 abbrev pub onto_first : ℕ → List (List ℕ) → List (List ℕ)
 onto_first b [] = (b ∷ []) ∷ []
 onto_first b (line ∷ lines) = (b ∷ line) ∷ lines
-
-abbrev pub begins_with : ℕ → List ℕ → Bool
-begins_with byte [] = false
-begins_with byte (b ∷ bs) = b == byte
 
 -- An LF ends each line; the last one may lack it. A CR that stands before an LF is dropped.
 abbrev pub lines_of : List ℕ → List (List ℕ)

@@ -1,4 +1,4 @@
--- What wires and supplies may be called.
+-- What wires may be called, and names in a list.
 use Rattle.std.specs.Prelude.{ℕ, Bool, true, false, List, [], ◌∷◌, length, not, ◌&&◌, ◌||◌, ◌==◌, nat_le}
 use Rattle.std.specs.List.{list_all, list_any}
 use Rattle.std.specs.Char.{is_ascii_digit, is_ascii_lowercase}
@@ -11,15 +11,6 @@ is_wire_byte b = is_ascii_lowercase b || is_ascii_digit b || b == 95
 abbrev pub is_wire_name : List ℕ → Bool
 is_wire_name [] = false
 is_wire_name (b ∷ bs) = is_ascii_lowercase b && nat_le (length (b ∷ bs)) 16 && list_all is_wire_byte (b ∷ bs)
-
--- from `!` to `~`, but no `;`
-abbrev pub is_name_byte : ℕ → Bool
-is_name_byte b = nat_le 33 b && nat_le b 126 && not (b == 59)
-
--- 1 to 64 such bytes, and no `#` first
-abbrev pub is_name : List ℕ → Bool
-is_name [] = false
-is_name (b ∷ bs) = not (b == 35) && nat_le (length (b ∷ bs)) 64 && list_all is_name_byte (b ∷ bs)
 
 abbrev pub is_among : List ℕ → List (List ℕ) → Bool
 is_among name names = list_any (λ other. bytes_eq other name) names

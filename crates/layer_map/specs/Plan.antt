@@ -84,6 +84,10 @@ map_of said = record {
   low = gathered (λ wires. supplies_in Low) said;
 }
 
+-- the names of a map's wires, in their order
+abbrev pub wire_names : Plan → List (List ℕ)
+wire_names plan = map (λ w. w.name) plan.wires
+
 -- ---- what every map keeps
 
 -- a list of one or more wires, each below this number
@@ -102,7 +106,7 @@ pub record IsKeptFet (count : ℕ) (f : Fet) : Type 0 where
 
 -- At most 16 wires; the numbers of wires are in range and their lists not empty; no two label lines are of one layer; no
 -- expression is true where no layer is present.
-pub record IsKept (p : Plan) : Type 0 where
+pub record IsKeptMap (p : Plan) : Type 0 where
   pub few : length p.wires ≤ 16
   pub wires : AllByRecursion (λ w. is_unbounded w.formula ≡ false) p.wires
   pub cuts : AllByRecursion (IsKeptCut (length p.wires)) p.cuts

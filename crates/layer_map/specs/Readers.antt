@@ -2,19 +2,15 @@
 use Rattle.std.specs.Prelude.{ℕ, ◌+◌, ◌-◌, Bool, true, false, List, [], ◌∷◌, codes, Option, Some, None, option_map, not, ◌&&◌, ◌||◌, ◌==◌, if◌then◌else◌}
 use Rattle.std.specs.List.{list_all}
 use Rattle.std.specs.Str.{bytes_eq}
-use Rattle.plane_geom.specs.Names.{is_short}
+use Rattle.plane_geom.specs.Texts.{◌>>=◌}
+use Rattle.plane_geom.specs.Names.{is_short, is_name}
 use Rattle.switch_net.specs.declared.Kind.{Kind}
 use Rattle.switch_net.specs.declared.Kind.TheVariants.{N, P}
 use Rattle.layer_map.specs.declared.refusal.Side.TheVariants.{High, Low}
 use Rattle.layer_map.specs.declared.expressions.Scan.{Scan}
-use Rattle.layer_map.specs.Names.{is_wire_name, is_name}
-use Rattle.layer_map.specs.Words.{words_of, is_skipped, is_supply}
+use Rattle.layer_map.specs.Names.{is_wire_name}
+use Rattle.layer_map.specs.Words.{words_of, is_skipped, is_supply_line}
 use Rattle.layer_map.specs.Grammar.{Factor, of_layer, inverse, group, product, Factors, no_factor, times, Sum, sum_of, Products, no_product, plus, Statement, nothing, wire, cut, fet, label, supply}
-
-infixl 10 ◌>>=◌
-abbrev pub ◌>>=◌ : {A B : Type 0} → Option A → (A → Option B) → Option B
-None >>= f = None
-(Some x) >>= f = f x
 
 -- the first, and the others
 abbrev pub first_of : {A : Type 0} → List A → Option (A × List A)
@@ -169,4 +165,4 @@ row_at (w ∷ ws) = if bytes_eq w (codes "wire") then wire_at ws else if bytes_e
 
 -- what the line says, if it is of the grammar
 unfoldable pub said_at : List ℕ → Option Statement
-said_at line = if is_skipped line then Some nothing else if is_supply line then supply_at (words_of false line) else row_at (words_of true line)
+said_at line = if is_skipped line then Some nothing else if is_supply_line line then supply_at (words_of false line) else row_at (words_of true line)

@@ -43,5 +43,5 @@ begins_supply [] = false
 begins_supply (word ∷ words) = bytes_eq word (codes "high") || bytes_eq word (codes "low")
 
 -- a line whose first word, cut at blanks alone, is `high` or `low`
-abbrev pub is_supply : List ℕ → Bool
-is_supply line = begins_supply (words_of false line)
+abbrev pub is_supply_line : List ℕ → Bool
+is_supply_line line = begins_supply (words_of false line)

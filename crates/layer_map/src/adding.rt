@@ -33,12 +33,12 @@ const MOST_NAMES: usize = 32;
 const LONGEST_LIST: usize = 16;
 
 impl LayerMap {
-    ghost use Rattle.std.specs.Prelude.{◌≡◌, ◌≢◌, true, false, OnOk, IfErr, Some};
+    ghost use Rattle.std.specs.Prelude.{◌≡◌, ◌≢◌, true, false, OnOk, IfErr, Some, length};
     ghost use Rattle.plane_geom.specs.Names.{is_short};
     ghost use Rattle.layer_map.specs.Words.{words_of};
     ghost use Rattle.layer_map.specs.Grammar.{wire, cut, fet, label, supply};
     ghost use Rattle.layer_map.specs.Readers.{tree_of};
-    ghost use Rattle.layer_map.specs.Faults.{fault_in};
+    ghost use Rattle.layer_map.specs.Faults.{fault_in, supplies};
     ghost use Rattle.layer_map.specs.RowViews.{row_seen, HasTree, HasList, IsFormed};
     ghost use Rattle.layer_map.specs.Steps.{Adds};
 
@@ -164,33 +164,37 @@ impl LayerMap {
         Ok(())
     }
 
-    fn add_high(&mut self, alloc: Global, number: u64, names: &[u8]) -> Result<(), MapRefusal>
-        ensures added { OnOk result (Adds number self.old (supply Side.High (words_of false names.now)) self.new) }
-        ensures fault { IfErr result (λ fault. fault ≢ MapRefusal.NoMemory → fault_in number self.old (supply Side.High (words_of false names.now)) ≡ Some fault) }
+    /// How many names the supply has so far.
+    fn supply_size(&self, side: Side) -> usize
+        ensures { result ≡ length (supplies side self.now) }
     {
-        if self.high.len().saturating_add(count_names(names)) > MOST_NAMES {
-            return Err(MapRefusal::TooMany(number));
+        match side {
+            Side::High => self.high.len(),
+            Side::Low => self.low.len(),
         }
-        let names = names_of(alloc, names)?;
-        if is_any_supply(&self.high, &self.low, &names) || !are_distinct(&names) {
-            return Err(MapRefusal::TwiceNamed(number));
-        }
-        append(&mut self.high, names)?;
-        Ok(())
     }
 
-    fn add_low(&mut self, alloc: Global, number: u64, names: &[u8]) -> Result<(), MapRefusal>
-        ensures added { OnOk result (Adds number self.old (supply Side.Low (words_of false names.now)) self.new) }
-        ensures fault { IfErr result (λ fault. fault ≢ MapRefusal.NoMemory → fault_in number self.old (supply Side.Low (words_of false names.now)) ≡ Some fault) }
+    fn add_supply(
+        &mut self,
+        alloc: Global,
+        number: u64,
+        side: Side,
+        names: &[u8],
+    ) -> Result<(), MapRefusal>
+        ensures added { OnOk result (Adds number self.old (supply side (words_of false names.now)) self.new) }
+        ensures fault { IfErr result (λ fault. fault ≢ MapRefusal.NoMemory → fault_in number self.old (supply side (words_of false names.now)) ≡ Some fault) }
     {
-        if self.low.len().saturating_add(count_names(names)) > MOST_NAMES {
+        if self.supply_size(side).saturating_add(count_names(names)) > MOST_NAMES {
             return Err(MapRefusal::TooMany(number));
         }
         let names = names_of(alloc, names)?;
         if is_any_supply(&self.high, &self.low, &names) || !are_distinct(&names) {
             return Err(MapRefusal::TwiceNamed(number));
         }
-        append(&mut self.low, names)?;
+        match side {
+            Side::High => append(&mut self.high, names)?,
+            Side::Low => append(&mut self.low, names)?,
+        }
         Ok(())
     }
 
@@ -211,14 +215,7 @@ impl LayerMap {
                 diff,
             } => self.add_fet(alloc, number, kind, expr, gate, diff),
             Row::Label { layer, wires } => self.add_label(alloc, number, layer, wires),
-            Row::Supply {
-                side: Side::High,
-                names,
-            } => self.add_high(alloc, number, names),
-            Row::Supply {
-                side: Side::Low,
-                names,
-            } => self.add_low(alloc, number, names),
+            Row::Supply { side, names } => self.add_supply(alloc, number, side, names),
         }
     }
 }

@@ -5,7 +5,7 @@ ghost use Rattle.std.specs.Prelude.{position};
 ghost use Rattle.std.specs.List.{list_all, list_any, position_or_len};
 ghost use Rattle.std.specs.Str.{bytes_eq};
 ghost use Rattle.layer_map.specs.Words.{words_of};
-ghost use Rattle.layer_map.specs.Names.{is_among, are_distinct as are_distinct_lem};
+ghost use Rattle.layer_map.specs.Names.{is_among as is_among_lem, are_distinct as are_distinct_lem};
 ghost use Rattle.layer_map.specs.Truth.{formula_of, is_unbounded as is_unbounded_lem};
 ghost use Rattle.layer_map.specs.Plan.{number_of as number_of_lem};
 ghost use Rattle.layer_map.specs.Adding.{numbers_at};
@@ -38,7 +38,7 @@ fn any_wire(wires: &[WireLine], name: &[u8]) -> bool
 
 /// Whether a wire of the map has this name.
 pub(crate) fn is_wire(wires: &[WireLine], name: &[u8]) -> bool
-    ensures { result ≡ is_among name.now (map (λ w. w.name) (map wire_seen wires.now)) }
+    ensures { result ≡ is_among_lem name.now (map (λ w. w.name) (map wire_seen wires.now)) }
 {
     any_wire(wires, name)
 }
@@ -83,7 +83,7 @@ fn numbers_of(
 /// The wire with this name, where there is one.
 pub(crate) fn wire_of(wires: &[WireLine], name: &[u8]) -> Option<WireId>
     requires { length wires.now ≤ 16 }
-    ensures { MatchOption result (is_among name.now (map (λ w. w.name) (map wire_seen wires.now)) ≡ false) (λ w. (is_among name.now (map (λ w. w.name) (map wire_seen wires.now)) ≡ true) × (w.0 ≡ number_of_lem (map wire_seen wires.now) name.now)) }
+    ensures { MatchOption result (is_among_lem name.now (map (λ w. w.name) (map wire_seen wires.now)) ≡ false) (λ w. (is_among_lem name.now (map (λ w. w.name) (map wire_seen wires.now)) ≡ true) × (w.0 ≡ number_of_lem (map wire_seen wires.now) name.now)) }
 {
     number_of(wires, name)
 }
@@ -95,7 +95,7 @@ pub(crate) fn wires_of(
     names: &[u8],
 ) -> Result<Option<Vec<WireId>>, AllocError>
     requires { length wires.now ≤ 16 }
-    ensures { IfOk result (λ o. MatchOption o (list_all (λ n. is_among n (map (λ w. w.name) (map wire_seen wires.now))) (words_of true names.now) ≡ false) (λ v. (list_all (λ n. is_among n (map (λ w. w.name) (map wire_seen wires.now))) (words_of true names.now) ≡ true) × (numbers_seen v.items ≡ map (number_of_lem (map wire_seen wires.now)) (words_of true names.now)))) }
+    ensures { IfOk result (λ o. MatchOption o (list_all (λ n. is_among_lem n (map (λ w. w.name) (map wire_seen wires.now))) (words_of true names.now) ≡ false) (λ v. (list_all (λ n. is_among_lem n (map (λ w. w.name) (map wire_seen wires.now))) (words_of true names.now) ≡ true) × (numbers_seen v.items ≡ map (number_of_lem (map wire_seen wires.now)) (words_of true names.now)))) }
 {
     numbers_of(alloc, wires, names)
 }
@@ -137,28 +137,28 @@ fn any_label(labels: &[LabelLine], layer: Short) -> bool
 
 /// Whether a label line of the map is of this layer.
 pub(crate) fn is_layer(labels: &[LabelLine], layer: Short) -> bool
-    ensures { result ≡ is_among layer (map (λ l. l.layer) (map label_seen labels.now)) }
+    ensures { result ≡ is_among_lem layer (map (λ l. l.layer) (map label_seen labels.now)) }
 {
     any_label(labels, layer)
 }
 
-/// Whether a supply has this name.
-fn is_supply(names: &[Label], name: &[u8]) -> bool
-    ensures { result ≡ list_any (λ n. bytes_eq n name.now) names.now }
+/// Whether the name is one of these.
+fn is_among(names: &[Label], name: &[u8]) -> bool
+    ensures { result ≡ is_among_lem name.now names.now }
 {
     names.iter().any(|label| label.as_bytes() == name)
 }
 
 /// Whether the name is among those of either supply.
 fn is_in_either(high: &[Label], low: &[Label], name: &Label) -> bool
-    ensures { result ≡ (is_among name.now high.now || is_among name.now low.now) }
+    ensures { result ≡ (is_among_lem name.now high.now || is_among_lem name.now low.now) }
 {
-    is_supply(high, name.as_bytes()) || is_supply(low, name.as_bytes())
+    is_among(high, name.as_bytes()) || is_among(low, name.as_bytes())
 }
 
 /// Whether one of the names is among those of either supply.
 pub(crate) fn is_any_supply(high: &[Label], low: &[Label], names: &[Label]) -> bool
-    ensures { result ≡ list_any (λ n. is_among n high.now || is_among n low.now) names.now }
+    ensures { result ≡ list_any (λ n. is_among_lem n high.now || is_among_lem n low.now) names.now }
 {
     names.iter().any(|name| is_in_either(high, low, name))
 }
@@ -170,7 +170,7 @@ pub(crate) fn are_distinct(names: &[Label]) -> bool
     let Some((first, others)) = names.split_first() else {
         return true;
     };
-    !is_supply(others, first.as_bytes()) && are_distinct(others)
+    !is_among(others, first.as_bytes()) && are_distinct(others)
 }
 
 /// The names of supplies.

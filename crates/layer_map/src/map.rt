@@ -42,7 +42,7 @@ pub struct LabelLine {
 }
 
 /// A layer map, as it is read: its lines in the order of the text, and the names of the two supplies. Contracts see plain
-/// lists, by `Plan`. Each map keeps `IsKept`: it has at most 16 wires, the numbers of wires are in range and their lists
+/// lists, by `Plan`. Each map keeps `IsKeptMap`: it has at most 16 wires, the numbers of wires are in range and their lists
 /// not empty, no two label lines are of one layer, and no expression is true where no layer is present.
 #[derive(Debug, Drop)]
 pub struct LayerMap {
@@ -58,7 +58,7 @@ impl Model for LayerMap {
     ghost use Rattle.std.specs.Prelude.{map};
     ghost use Rattle.std.specs.Coded.{codes};
     ghost use Rattle.layer_map.specs.Codes.{formula_code};
-    ghost use Rattle.layer_map.specs.Plan.{Plan, IsKept};
+    ghost use Rattle.layer_map.specs.Plan.{Plan, IsKeptMap};
     ghost use Rattle.layer_map.specs.Views.{wire_seen, cut_seen, fet_seen, label_seen};
 
     ghost Value = { Plan };
@@ -67,12 +67,12 @@ impl Model for LayerMap {
 
     ghost view = { λ m. record { wires = map wire_seen m.wires.items; cuts = map cut_seen m.cuts.items; fets = map fet_seen m.fets.items; labels = map label_seen m.labels.items; high = m.high.items; low = m.low.items } };
 
-    ghost invariant = { λ m. IsKept (record { wires = map wire_seen m.wires.items; cuts = map cut_seen m.cuts.items; fets = map fet_seen m.fets.items; labels = map label_seen m.labels.items; high = m.high.items; low = m.low.items }) };
+    ghost invariant = { λ m. IsKeptMap (record { wires = map wire_seen m.wires.items; cuts = map cut_seen m.cuts.items; fets = map fet_seen m.fets.items; labels = map label_seen m.labels.items; high = m.high.items; low = m.low.items }) };
 }
 
 impl LayerMap {
     ghost use Rattle.std.specs.Prelude.{◌≡◌, [], map};
-    ghost use Rattle.layer_map.specs.Plan.{IsKept, map_of};
+    ghost use Rattle.layer_map.specs.Plan.{IsKeptMap, map_of};
     ghost use Rattle.layer_map.specs.Views.{wire_seen, cut_seen, fet_seen, label_seen};
 
     /// A map with no lines.
@@ -92,7 +92,7 @@ impl LayerMap {
     /// The wires, in the order of their numbers.
     pub fn wires(&self) -> &[WireLine]
         ensures same { map wire_seen result.now ≡ self.now.wires }
-        ensures kept { IsKept self.now }
+        ensures kept { IsKeptMap self.now }
     {
         self.wires.as_slice()
     }
@@ -100,7 +100,7 @@ impl LayerMap {
     /// The cuts.
     pub fn cuts(&self) -> &[CutLine]
         ensures same { map cut_seen result.now ≡ self.now.cuts }
-        ensures kept { IsKept self.now }
+        ensures kept { IsKeptMap self.now }
     {
         self.cuts.as_slice()
     }
@@ -108,7 +108,7 @@ impl LayerMap {
     /// The kinds of transistors.
     pub fn fets(&self) -> &[FetLine]
         ensures same { map fet_seen result.now ≡ self.now.fets }
-        ensures kept { IsKept self.now }
+        ensures kept { IsKeptMap self.now }
     {
         self.fets.as_slice()
     }
@@ -116,7 +116,7 @@ impl LayerMap {
     /// The wires of labels, by their layers.
     pub fn labels(&self) -> &[LabelLine]
         ensures same { map label_seen result.now ≡ self.now.labels }
-        ensures kept { IsKept self.now }
+        ensures kept { IsKeptMap self.now }
     {
         self.labels.as_slice()
     }

@@ -2,19 +2,16 @@
 
 ghost use Rattle.std.specs.Prelude.{◌≡◌, true, false, not, ◌&&◌};
 ghost use Rattle.std.specs.List.{list_all};
-ghost use Rattle.layer_map.specs.Names.{is_wire_byte as is_wire_byte_lem, is_wire_name as is_wire_name_lem, is_name_byte as is_name_byte_lem, is_name as is_name_lem};
-ghost use Rattle.plane_geom.specs.Names.{is_short as is_short_lem};
+ghost use Rattle.layer_map.specs.Names.{is_wire_byte as is_wire_byte_lem, is_wire_name as is_wire_name_lem};
+ghost use Rattle.plane_geom.specs.Names.{is_short as is_short_lem, is_name as is_name_lem};
 ghost use Rattle.layer_map.specs.Words.{words_of};
 ghost use Rattle.layer_map.specs.Readers.{is_nothing, are_wires as are_wires_lem};
 
 use crate::words::{next_name, next_word};
-use plane_geom::Short;
+use plane_geom::{Short, is_name};
 
 /// The longest name of a wire, in bytes.
 const LONGEST_WIRE_NAME: usize = 16;
-
-/// The longest name of a supply, in bytes.
-const LONGEST_NAME: usize = 64;
 
 /// Whether the word is the name of a layer.
 pub(crate) fn is_short(word: &[u8]) -> bool
@@ -37,26 +34,6 @@ pub(crate) fn is_wire_name(word: &[u8]) -> bool
         return false;
     };
     first.is_ascii_lowercase() && word.len() <= LONGEST_WIRE_NAME && are_wire_bytes(word)
-}
-
-fn are_name_bytes(word: &[u8]) -> bool
-    ensures { result ≡ list_all is_name_byte_lem word.now }
-{
-    word.iter()
-        .all(|byte| byte.is_ascii_graphic() && *byte != b';')
-}
-
-/// Whether a supply may be called so.
-fn is_name(word: &[u8]) -> bool
-    ensures { result ≡ is_name_lem word.now }
-{
-    let Some(first) = word.first() else {
-        return false;
-    };
-    if *first == b'#' || word.len() > LONGEST_NAME {
-        return false;
-    }
-    are_name_bytes(word)
 }
 
 fn are_all_wires(bytes: &[u8]) -> bool

@@ -24,8 +24,11 @@ pub enum MapRefusal {
     TwiceNamed(u64),
     /// No line names a supply of this side.
     NoSupplyLine(Side),
-    /// The line passes a limit.
+    /// With the line there are over 16 wires, 32 cuts, 8 kinds of transistors, 64 label lines or 32 names of one supply,
+    /// or the line has over 16 wires in a list or a too large expression: over 64 names of layers, or over 32 `(` and `!`
+    /// open round one place.
     TooMany(u64),
+    /// Memory ran out before the answer was known.
     NoMemory,
 }
 

@@ -173,7 +173,7 @@ fn is_skipped(line: &[u8]) -> bool
 }
 
 /// Whether the line's first word is `high` or `low`.
-fn is_supply(line: &[u8]) -> bool
+fn is_supply_line(line: &[u8]) -> bool
     ensures { result ≡ begins_supply (words_of false line.now) }
 {
     match next_name(line) {
@@ -190,7 +190,7 @@ pub(crate) fn row_of(line: &[u8]) -> Option<Row<'_>>
 {
     if is_skipped(line) {
         Some(Row::Nothing)
-    } else if is_supply(line) {
+    } else if is_supply_line(line) {
         supply_of(line)
     } else {
         other_row_of(line)

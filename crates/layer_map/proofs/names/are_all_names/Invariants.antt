@@ -1,6 +1,6 @@
 use Rattle.std.proofs.Common.{◌≡◌, false, length}
 use Rattle.std.specs.List.{list_all}
-use Rattle.layer_map.specs.Names.{is_name}
+use Rattle.plane_geom.specs.Names.{is_name}
 use Rattle.layer_map.specs.Words.{words_of}
 use Rattle.layer_map.proofs.names.are_all_names.Given as goal
 

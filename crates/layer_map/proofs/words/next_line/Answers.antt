@@ -1,4 +1,5 @@
-use Rattle.layer_map.proofs.LineLemmas.{read_line, read_last_line, positive}
+use Rattle.layer_map.proofs.LineLemmas.{read_line, read_last_line}
+use Rattle.layer_map.proofs.WordLemmas.{positive}
 use Rattle.layer_map.proofs.words.next_line.Goals as goal
 
 pub returns-in-None-clause-line : goal.returns-in-None-clause-line

@@ -9,7 +9,8 @@ use Rattle.std.proofs.lemmas.Bool.Decides.{nat_tests}
 use Rattle.std.proofs.lemmas.List.{append-nil, length-map}
 use Rattle.std.proofs.lemmas.Map.Steps.{length-le_from_keys}
 use Rattle.std.proofs.lemmas.List.Folds.{list_any-append}
-use Rattle.std.proofs.lemmas.Option.{none-some, slice_get_within}
+use Rattle.std.proofs.lemmas.Option.{none-some, slice_get_within, same_Some}
+use Rattle.std.proofs.lemmas.Bool.{false≢true, or_left, or_right, or_parts}
 use Rattle.indexmap.specs.IndexSet.{insert_key}
 use Rattle.cif_reader.specs.declared.file.Item.{Item}
 use Rattle.cif_reader.specs.declared.file.Symbol.{Symbol}
@@ -21,39 +22,23 @@ use Rattle.cif_reader.specs.File.{Contents, has_number}
 use Rattle.cif_reader.proofs.Numbered.{some_any}
 use Rattle.cif_flatten.specs.Sizes.{called_by}
 use Rattle.cif_flatten.specs.Reaching.{has, is_defined, Grown, Searched, IsLeastAmong, IsLesser}
-
-pub false_true : false ≡ true → ⊥
-false_true h = cc
-
-pub or_case : {P : Type 0} (a b : Bool) → (a || b) ≡ true → (a ≡ true → P) → (b ≡ true → P) → P
-or_case true b h f g = f refl
-or_case false b h f g = g h
-
-or_left : (a b : Bool) → a ≡ true → (a || b) ≡ true
-or_left a b h = ap (λ x. x || b) h
-
-or_right : (a b : Bool) → b ≡ true → (a || b) ≡ true
-or_right true b h = refl
-or_right false b h = h
+use Rattle.cif_flatten.proofs.Cases.{or_case, min_case}
 
 below_none : (j : ℕ) → j < 0 → ⊥
 below_none j h = omega (arith, h)
 
-pub some_is : (m n : ℕ) → Some m ≡ Some n → m ≡ n
-some_is m n h = cc
-
 pub call_is : (n : ℕ) (what : What) → is_call_of n what ≡ true → called_by what ≡ Some n
-call_is n (Draw layer shape) h = absurd (false_true h)
+call_is n (Draw layer shape) h = absurd (false≢true h)
 call_is n (Call called place) h = ap (λ k. Some k) (sym (eqb-true n called h))
-call_is n (Mark name at layer) h = absurd (false_true h)
+call_is n (Mark name at layer) h = absurd (false≢true h)
 
 is_call : (n : ℕ) (what : What) → called_by what ≡ Some n → is_call_of n what ≡ true
 is_call n (Draw layer shape) h = absurd (none-some n h)
-is_call n (Call called place) h = eq-eqb n called (sym (some_is called n h))
+is_call n (Call called place) h = eq-eqb n called (sym (same_Some called n h))
 is_call n (Mark name at layer) h = absurd (none-some n h)
 
 pub one_call : (n : ℕ) (item : Item) → has_call n (item ∷ []) ≡ true → called_by item.what ≡ Some n
-one_call n item h = or_case (is_call_of n item.what) false h (call_is n item.what) (λ no_more. absurd (false_true no_more))
+one_call n item h = or_case (is_call_of n item.what) false h (call_is n item.what) (λ no_more. absurd (false≢true no_more))
 
 call_one : (n : ℕ) (item : Item) → called_by item.what ≡ Some n → has_call n (item ∷ []) ≡ true
 call_one n item h = or_left (is_call_of n item.what) false (is_call n item.what h)
@@ -70,21 +55,13 @@ has_case xs ys n h f g = or_case (has xs n) (has ys n) (sym (list_any-append (na
 -- ---- what items add
 
 pub grown_nil : (symbols : List Symbol) (found : List ℕ) → Grown symbols [] found found
-grown_nil symbols found = record { more = []; kept = sym (append-nil found); all = λ n h d. absurd (false_true h); only = λ n h. inl h; distinct = λ d. d }
+grown_nil symbols found = record { more = []; kept = sym (append-nil found); all = λ n h d. absurd (false≢true h); only = λ n h. inl h; distinct = λ d. d }
 
 pub grown_none : (symbols : List Symbol) (item : Item) (found : List ℕ) → ((n : ℕ) → called_by item.what ≡ Some n → is_defined symbols n ≡ true → ⊥) → Grown symbols (item ∷ []) found found
 grown_none symbols item found none = record { more = []; kept = sym (append-nil found); all = λ n h d. absurd (none n (one_call n item h) d); only = λ n h. inl h; distinct = λ d. d }
 
 other_way : (m n : ℕ) → nat_eq m n ≡ false → nat_eq n m ≡ false
 other_way m n h = grind (arith, nat_tests)
-
-or_none_left : (a b : Bool) → (a || b) ≡ false → a ≡ false
-or_none_left true b h = h
-or_none_left false b h = refl
-
-or_none_right : (a b : Bool) → (a || b) ≡ false → b ≡ false
-or_none_right true b h = absurd (false_true (sym h))
-or_none_right false b h = h
 
 all_other : (x n : ℕ) (xs : List ℕ) → AllByRecursion (λ y. nat_eq x y ≡ false) xs → nat_eq x n ≡ false → AllByRecursion (λ y. nat_eq x y ≡ false) (xs ++ n ∷ [])
 all_other x n [] h k = (k, tt)
@@ -93,22 +70,22 @@ all_other x n (y ∷ xs) h k = (h.0, all_other x n xs h.1 k)
 distinct_more : (xs : List ℕ) (n : ℕ) → has xs n ≡ false → IsDistinct nat_eq xs → IsDistinct nat_eq (xs ++ n ∷ [])
 unfolding IsDistinct
 distinct_more [] n h d = (tt, tt)
-distinct_more (x ∷ xs) n h d = (all_other x n xs d.0 (other_way n x (or_none_left (nat_eq n x) (has xs n) h)), distinct_more xs n (or_none_right (nat_eq n x) (has xs n) h) d.1)
+distinct_more (x ∷ xs) n h d = (all_other x n xs d.0 (other_way n x (or_parts (nat_eq n x) (has xs n) h).0), distinct_more xs n (or_parts (nat_eq n x) (has xs n) h).1 d.1)
 
 grown_case : (symbols : List Symbol) (item : Item) (n : ℕ) (found now : List ℕ) (b : Bool) → called_by item.what ≡ Some n → is_defined symbols n ≡ true → has found n ≡ b → now ≡ cond b found (found ++ n ∷ []) → Grown symbols (item ∷ []) found now
 grown_case symbols item n found now true call defined there is = record {
   more = [];
   kept = is ∙ sym (append-nil found);
-  all = λ m h d. subst (λ k. has now k ≡ true) (some_is n m (sym call ∙ one_call m item h)) (ap (λ xs. has xs n) is ∙ there);
+  all = λ m h d. subst (λ k. has now k ≡ true) (same_Some n m (sym call ∙ one_call m item h)) (ap (λ xs. has xs n) is ∙ there);
   only = λ m h. inl (sym (ap (λ xs. has xs m) is) ∙ h);
   distinct = λ d. subst (IsDistinct nat_eq) (sym is) d;
 }
 grown_case symbols item n found now false call defined there is = record {
   more = n ∷ [];
   kept = is;
-  all = λ m h d. subst (λ k. has now k ≡ true) (some_is n m (sym call ∙ one_call m item h)) (ap (λ xs. has xs n) is ∙ has_right found (n ∷ []) n (or_left (nat_eq n n) false (eq-eqb n n refl)));
+  all = λ m h d. subst (λ k. has now k ≡ true) (same_Some n m (sym call ∙ one_call m item h)) (ap (λ xs. has xs n) is ∙ has_right found (n ∷ []) n (or_left (nat_eq n n) false (eq-eqb n n refl)));
   only = λ m h. has_case found (n ∷ []) m (sym (ap (λ xs. has xs m) is) ∙ h) (λ l. inl l)
-      (λ r. or_case (nat_eq m n) false r (λ e. inr (call_one m item (call ∙ ap (λ k. Some k) (sym (eqb-true m n e))), ap (is_defined symbols) (eqb-true m n e) ∙ defined)) (λ no_more. absurd (false_true no_more)));
+      (λ r. or_case (nat_eq m n) false r (λ e. inr (call_one m item (call ∙ ap (λ k. Some k) (sym (eqb-true m n e))), ap (is_defined symbols) (eqb-true m n e) ∙ defined)) (λ no_more. absurd (false≢true no_more)));
   distinct = λ d. subst (IsDistinct nat_eq) (sym is) (distinct_more found n there d);
 }
 
@@ -150,7 +127,7 @@ through_more : (symbols : List Symbol) (a k n : ℕ) → CallsThrough symbols a 
 through_more symbols a k n h e = record { through = h.through ++ k ∷ []; along = along_more symbols a h.through k n h.along e }
 
 reached_first : (symbols : List Symbol) (start n : ℕ) → (has [] n ≡ true) ⊎ ((calls symbols start n ≡ true) × (is_defined symbols n ≡ true)) → CallsThrough symbols start n × (is_defined symbols n ≡ true)
-reached_first symbols start n (inl h) = absurd (false_true h)
+reached_first symbols start n (inl h) = absurd (false≢true h)
 reached_first symbols start n (inr h) = (record { through = []; along = h.0 }, h.1)
 
 distinct_none : IsDistinct nat_eq []
@@ -175,7 +152,7 @@ kept_has symbols items a b g n h = ap (λ xs. has xs n) g.kept ∙ has_left a g.
 
 has_at : (xs : List ℕ) (i k : ℕ) → slice_get xs i ≡ Some k → has xs k ≡ true
 has_at [] i k h = absurd (none-some k h)
-has_at (x ∷ xs) zero k h = or_left (nat_eq k x) (has xs k) (eq-eqb k x (sym (some_is x k h)))
+has_at (x ∷ xs) zero k h = or_left (nat_eq k x) (has xs k) (eq-eqb k x (sym (same_Some x k h)))
 has_at (x ∷ xs) (suc i) k h = or_right (nat_eq k x) (has xs k) (has_at xs i k h)
 
 get_front : (xs ys : List ℕ) (i : ℕ) → i < length xs → slice_get (xs ++ ys) i ≡ slice_get xs i
@@ -188,7 +165,7 @@ next_case symbols start place k a b s at g j m n (inl less) here h d =
     let inside : j < length a = omega (arith, less, slice_get_within a place k at) in
     kept_has symbols (items_of symbols k) a b g n (s.next j m n less (sym (get_front a g.more j inside) ∙ sym (ap (λ xs. slice_get xs j) g.kept) ∙ here) h d)
 next_case symbols start place k a b s at g j m n (inr is) here h d =
-    let same : k ≡ m = some_is k m (sym at ∙ sym (get_front a g.more place (slice_get_within a place k at)) ∙ sym (ap (λ xs. slice_get xs place) g.kept) ∙ ap (slice_get b) (sym is) ∙ here) in
+    let same : k ≡ m = same_Some k m (sym at ∙ sym (get_front a g.more place (slice_get_within a place k at)) ∙ sym (ap (λ xs. slice_get xs place) g.kept) ∙ ap (slice_get b) (sym is) ∙ here) in
     g.all n (subst (λ q. calls symbols q n ≡ true) (sym same) h) d
 
 less_case : (j place : ℕ) (b : Bool) → nat_lt j place ≡ b → j < place + 1 → (j < place) ⊎ (j ≡ place)
@@ -229,11 +206,11 @@ more_at : (x : ℕ) (xs : List ℕ) (k : ℕ) → At xs k → At (x ∷ xs) k
 more_at x xs k h = record { place = suc h.place; inside = omega (arith, h.inside); is = h.is }
 
 has_place : (xs : List ℕ) (k : ℕ) → has xs k ≡ true → At xs k
-has_place [] k h = absurd (false_true h)
+has_place [] k h = absurd (false≢true h)
 has_place (x ∷ xs) k h = or_case (nat_eq k x) (has xs k) h (λ e. record { place = 0; inside = omega arith; is = ap (λ n. Some n) (sym (eqb-true k x e)) }) (λ r. more_at x xs k (has_place xs k r))
 
 items_case : (n : ℕ) (s : Option Symbol) → has_call n (items_in s) ≡ true → is_some s ≡ true
-items_case n None h = absurd (false_true h)
+items_case n None h = absurd (false≢true h)
 items_case n (Some s) h = refl
 
 pub defined_caller : (symbols : List Symbol) (k n : ℕ) → calls symbols k n ≡ true → is_defined symbols k ≡ true
@@ -257,7 +234,7 @@ lookup_case false rest s r h f = f h
 
 defined_lookup : (q : ℕ) (symbols : List Symbol) → is_defined symbols q ≡ true → IsSome (lookup (nat_eq q) (map entry symbols))
 unfolding entry
-defined_lookup q [] h = absurd (false_true h)
+defined_lookup q [] h = absurd (false≢true h)
 defined_lookup q (s ∷ symbols) h = lookup_case (nat_eq q s.number) (is_defined symbols q) s (lookup (nat_eq q) (map entry symbols)) h (defined_lookup q symbols)
 
 few_found : (symbols : List Symbol) (start : ℕ) (found : List ℕ) (place : ℕ) → Searched symbols start found place → length found ≤ length symbols
@@ -270,7 +247,7 @@ closed symbols start found place s all k n at c d = s.next at.place k n (omega (
 pub search_end : (symbols : List Symbol) (start : ℕ) (found : List ℕ) (place : ℕ) → Searched symbols start found place → length symbols ≤ place → has found start ≡ false → CallsThrough symbols start start → ⊥
 search_end symbols start found place s all none through =
     let few : length found ≤ length symbols = few_found symbols start found place s in
-    false_true (sym none ∙ along_found symbols found (λ k n h c d. closed symbols start found place s (omega (arith, few, all)) k n (has_place found k h) c d) start through.through start s.first through.along (first_defined symbols start through.through start through.along))
+    false≢true (sym none ∙ along_found symbols found (λ k n h c d. closed symbols start found place s (omega (arith, few, all)) k n (has_place found k h) c d) start through.through start s.first through.along (first_defined symbols start through.through start through.along))
 
 -- ---- the least
 
@@ -298,13 +275,6 @@ least_both : (symbols : List Symbol) (n : ℕ) (some : List Symbol) (l m r : ℕ
 least_both symbols n some l m r is h (inl d) t = omega (arith, is, h m d t)
 least_both symbols n some l m r is h (inr e) t = omega (arith, is, e)
 
-min_less : (l n r : ℕ) (b : Bool) → nat_lt l n ≡ b → r ≡ min l n → (r ≡ l) ⊎ (r ≡ n)
-min_less l n r true e is = inl (grind (arith, nat_tests))
-min_less l n r false e is = inr (grind (arith, nat_tests))
-
-min_case : (l n r : ℕ) → r ≡ min l n → (r ≡ l) ⊎ (r ≡ n)
-min_case l n r is = min_less l n r (nat_lt l n) refl is
-
 lesser_one : (symbols : List Symbol) (l n r : ℕ) → (r ≡ l) ⊎ (r ≡ n) → CallsThrough symbols l l → CallsThrough symbols n n → CallsThrough symbols r r
 lesser_one symbols l n r (inl e) h k = subst (λ q. CallsThrough symbols q q) (sym e) h
 lesser_one symbols l n r (inr e) h k = subst (λ q. CallsThrough symbols q q) (sym e) k
@@ -316,7 +286,7 @@ pub new_number : (symbols : List Symbol) (i : ℕ) (d : Symbol) → i < length s
 new_number symbols i d inside m h =
     or_case (is_defined (take i symbols) m) ((m == (get_or symbols i d).number) || false)
     (sym (ap (λ k. is_defined (take k symbols) m) (add-one i) ∙ ap (λ xs. is_defined xs m) (take-suc symbols i d inside) ∙ list_any-append (has_number m) (take i symbols) (get_or symbols i d ∷ [])) ∙ h)
-    (λ l. inl l) (λ r. or_case (m == (get_or symbols i d).number) false r (λ e. inr (eqb-true m (get_or symbols i d).number e)) (λ no_more. absurd (false_true no_more)))
+    (λ l. inl l) (λ r. or_case (m == (get_or symbols i d).number) false r (λ e. inr (eqb-true m (get_or symbols i d).number e)) (λ no_more. absurd (false≢true no_more)))
 
 least_case : (symbols : List Symbol) (n : ℕ) (some more : List Symbol) (least result : Option ℕ) (counts : Bool) → ((m : ℕ) → is_defined more m ≡ true → (is_defined some m ≡ true) ⊎ (m ≡ n)) → IsLeastAmong symbols some least
     → (counts ≡ true → CallsThrough symbols n n) → (counts ≡ false → CallsThrough symbols n n → ⊥) → (counts ≡ false → result ≡ least) → (counts ≡ true → IsLesser least n result) → IsLeastAmong symbols more result

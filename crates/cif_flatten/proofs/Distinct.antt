@@ -4,17 +4,14 @@ use Rattle.std.specs.Ordering.{int_cmp, int_eq}
 use Rattle.std.specs.List.{list_any, IsDistinct, AllByRecursion, dedup}
 use Rattle.std.specs.List.Sorted.{IsSorted, IsPermutation}
 use Rattle.std.proofs.lemmas.Cmp.{int_cmp_total, int_eq_equiv}
-use Rattle.std.proofs.lemmas.Int.{ints}
-use Rattle.std.proofs.lemmas.Bool.Decides.{nat_tests}
+use Rattle.std.proofs.lemmas.Bool.Decides.{Decides-int_eq}
 use Rattle.std.proofs.lemmas.List.Kept.{IsStrictlySortedBy-dedup, Contains-dedup, Contains-from_dedup}
 use Rattle.std.proofs.lemmas.List.Sorted.{list_any-IsPermutation}
 use Rattle.std.proofs.lemmas.Map.Keys.{IsDistinct-from_sorted}
 use Rattle.std.proofs.lemmas.Map.Made.{length-from_same_keys}
 use Rattle.std.proofs.lemmas.Map.Views.{list_any-from_Contains, Contains-from_any}
+use Rattle.std.proofs.lemmas.Bool.{or_parts}
 use Rattle.cif_flatten.specs.Faults.{count_distinct}
-
-equal_is : (x y : ℤ) → int_eq x y ≡ true → x ≡ y
-equal_is x y is = grind (arith, ints, nat_tests, is)
 
 has : List ℤ → ℤ → Bool
 has zs z = list_any (int_eq z) zs
@@ -39,7 +36,7 @@ or_true false b h = refl
 
 has_case : (q z : ℤ) (zs : List ℤ) (b : Bool) → list_any (int_eq z) zs ≡ b → list_any (int_eq q) (once zs) ≡ list_any (int_eq q) zs
     → list_any (int_eq q) (cond b (once zs) (z ∷ once zs)) ≡ (int_eq q z || list_any (int_eq q) zs)
-has_case q z zs true e h = h ∙ or_true (int_eq q z) (list_any (int_eq q) zs) (λ same. ap (λ w. list_any (int_eq w) zs) (equal_is q z same) ∙ e)
+has_case q z zs true e h = h ∙ or_true (int_eq q z) (list_any (int_eq q) zs) (λ same. ap (λ w. list_any (int_eq w) zs) ((Decides-int_eq q z).0 same) ∙ e)
 has_case q z zs false e h = ap (λ r. int_eq q z || r) h
 
 has_once : (q : ℤ) (zs : List ℤ) → list_any (int_eq q) (once zs) ≡ list_any (int_eq q) zs
@@ -47,18 +44,9 @@ unfolding once
 has_once q [] = refl
 has_once q (z ∷ zs) = has_case q z zs (list_any (int_eq z) zs) refl (has_once q zs)
 
-none_left : (a b : Bool) → (a || b) ≡ false → a ≡ false
-none_left true b h = h
-none_left false b h = refl
-
-none_right : (a b : Bool) → (a || b) ≡ false → b ≡ false
-none_right true true h = h
-none_right true false h = refl
-none_right false b h = h
-
 none_is : (z : ℤ) (ys : List ℤ) → list_any (int_eq z) ys ≡ false → AllByRecursion (λ y. int_eq z y ≡ false) ys
 none_is z [] h = tt
-none_is z (y ∷ ys) h = (none_left (int_eq z y) (list_any (int_eq z) ys) h, none_is z ys (none_right (int_eq z y) (list_any (int_eq z) ys) h))
+none_is z (y ∷ ys) h = ((or_parts (int_eq z y) (list_any (int_eq z) ys) h).0, none_is z ys (or_parts (int_eq z y) (list_any (int_eq z) ys) h).1)
 
 distinct_case : (z : ℤ) (zs : List ℤ) (b : Bool) → list_any (int_eq z) zs ≡ b → IsDistinct int_eq (once zs) → IsDistinct int_eq (cond b (once zs) (z ∷ once zs))
 unfolding IsDistinct
@@ -81,8 +69,8 @@ both_ways false false f g = refl
 
 has_dedup : (q : ℤ) (zs : List ℤ) → list_any (int_eq q) (dedup int_eq zs) ≡ list_any (int_eq q) zs
 has_dedup q zs = both_ways (list_any (int_eq q) (dedup int_eq zs)) (list_any (int_eq q) zs)
-    (λ h. list_any-from_Contains int_eq_equiv q zs (Contains-from_dedup int_eq zs q (Contains-from_any equal_is q (dedup int_eq zs) h)))
-    (λ h. list_any-from_Contains int_eq_equiv q (dedup int_eq zs) (Contains-dedup int_eq_equiv equal_is zs q (Contains-from_any equal_is q zs h)))
+    (λ h. list_any-from_Contains int_eq_equiv q zs (Contains-from_dedup int_eq zs q (Contains-from_any (λ x y. (Decides-int_eq x y).0) q (dedup int_eq zs) h)))
+    (λ h. list_any-from_Contains int_eq_equiv q (dedup int_eq zs) (Contains-dedup int_eq_equiv (λ x y. (Decides-int_eq x y).0) zs q (Contains-from_any (λ x y. (Decides-int_eq x y).0) q zs h)))
 
 -- A sorted list without those that stand twice is as long as there are different numbers.
 pub counted : (numbers sorted kept : List ℤ) → IsPermutation numbers sorted → IsSorted int_cmp sorted → kept ≡ dedup int_eq sorted → length kept ≡ count_distinct numbers

@@ -5,6 +5,7 @@ use Rattle.std.specs.List.{list_any}
 use Rattle.std.proofs.Math.Seq.{take-suc}
 use Rattle.std.proofs.lemmas.List.Folds.{list_any-append}
 use Rattle.std.proofs.lemmas.Option.{none-some}
+use Rattle.std.proofs.lemmas.Bool.{false≢true}
 use Rattle.plane_geom.proofs.Counting.{count_cons}
 use Rattle.indexmap.specs.IndexMap.{IndexMap, get}
 use Rattle.cif_reader.specs.declared.file.Symbol.{Symbol}
@@ -80,9 +81,6 @@ recursion symbols fs top n p on e = record { number = n; itself = circle symbols
 
 -- ---- how many symbols are not begun
 
-false_true : false ≡ true → ⊥
-false_true h = cc
-
 less_case : (t a b : Bool) (m n : ℕ) → (t ≡ true → a ≡ false) → (t ≡ false → a ≡ b) → m ≤ n → cond a 1 0 + m ≤ cond b 1 0 + n
 less_case true a b m n f g h = subst (λ (x : Bool). cond x 1 0 + m ≤ cond b 1 0 + n) (sym (f refl)) (omega (arith, h))
 less_case false a b m n f g h = subst (λ (x : Bool). cond x 1 0 + m ≤ cond b 1 0 + n) (sym (g refl)) (omega (arith, h))
@@ -103,7 +101,7 @@ lt_case true a b any m n f k g e le lt = lt_here a b m n (f refl) (k refl) le
 lt_case false a b any m n f k g e le lt = lt_there false a b m n f g (lt e)
 
 count_lt : {X : Type 0} (t p q : X → Bool) (xs : List X) → ((x : X) → t x ≡ true → p x ≡ false) → ((x : X) → t x ≡ true → q x ≡ true) → ((x : X) → t x ≡ false → p x ≡ q x) → list_any t xs ≡ true → count_by p xs < count_by q xs
-count_lt t p q [] f k g any = absurd (false_true any)
+count_lt t p q [] f k g any = absurd (false≢true any)
 count_lt t p q (x ∷ xs) f k g any =
     omega (arith, lt_case (t x) (p x) (q x) (list_any t xs) (count_by p xs) (count_by q xs) (f x) (k x) (g x) any (count_le t p q xs f g) (count_lt t p q xs f k g), count_cons p x xs, count_cons q x xs)
 
@@ -236,10 +234,10 @@ known_called P r n is h = subst (λ s. IfSome s P) is h
 pub met_again : {S : Type 0} (symbols : List Symbol) (start : ℕ) (before mid : IndexMap ℕ (Option Size) S) (below : List Frame) (frame : Frame) (n : ℕ) → Exploring symbols before mid start below frame → calls symbols frame.number n ≡ true
     → IsWaiting symbols mid n → is_some (get nat_eq mid n) ≡ true → Recurses symbols
 met_again symbols start before mid below frame n h e (inl begun) has = recursion symbols below frame.number n h.path (h.begun_on n begun) e
-met_again symbols start before mid below frame n h e (inr none) has = absurd (false_true (ap is_some (sym none.0) ∙ has))
+met_again symbols start before mid below frame n h e (inr none) has = absurd (false≢true (ap is_some (sym none.0) ∙ has))
 
 pub new_called : {S : Type 0} (symbols : List Symbol) (mid : IndexMap ℕ (Option Size) S) (n : ℕ) → IsWaiting symbols mid n → is_some (get nat_eq mid n) ≡ false → (get nat_eq mid n ≡ None) × (list_any (has_number n) symbols ≡ true)
-new_called symbols mid n (inl begun) not = absurd (false_true (sym not ∙ ap is_some begun))
+new_called symbols mid n (inl begun) not = absurd (false≢true (sym not ∙ ap is_some begun))
 new_called symbols mid n (inr none) not = none
 
 pub less_pushed : (m n : ℕ) (below pushed : List Frame) (f : Frame) → m < n → pushed ≡ below ++ f ∷ [] → 2 * m + length pushed < 2 * n + length below
@@ -256,7 +254,7 @@ all_known P r is h = subst (λ s. IfNone s P) is h
 more_case : (a b : Bool) {P : Type 0} → (a || (b || false)) ≡ true → (a ≡ true → P) → (b ≡ true → P) → P
 more_case true b h f g = f refl
 more_case false true h f g = g refl
-more_case false false h f g = absurd (false_true h)
+more_case false false h f g = absurd (false≢true h)
 
 pub begun_more : {S : Type 0} (symbols : List Symbol) (before now : IndexMap ℕ (Option Size) S) (i : ℕ) (d : Symbol) → i < length symbols → AreBegun (take i symbols) before → Explored symbols before now (get_or symbols i d).number
     → AreBegun (take (i + 1) symbols) now
@@ -269,7 +267,7 @@ begun_more symbols before now i d inside begun e = λ n any.
 -- Where all is measured nothing waits.
 pub none_waits : {S : Type 0} (symbols : List Symbol) (table : IndexMap ℕ (Option Size) S) (n : ℕ) → HasSizes symbols table → IsWaiting symbols table n → ⊥
 none_waits symbols table n h (inl begun) = h.settled n begun
-none_waits symbols table n h (inr none) = false_true (ap is_some (sym none.0) ∙ h.begun n none.1)
+none_waits symbols table n h (inr none) = false≢true (ap is_some (sym none.0) ∙ h.begun n none.1)
 
 -- The size of the items of a number.
 record Sized (symbols : List Symbol) (number : ℕ) : Type 0 where
@@ -280,7 +278,7 @@ sized_case : {S : Type 0} (symbols : List Symbol) (table : IndexMap ℕ (Option 
 unfolding nothing
 sized_case symbols table n (Some (Some size)) any h is e = record { size = size; has = h.sizes n size is }
 sized_case symbols table n (Some None) any h is e = absurd (h.settled n is)
-sized_case symbols table n None true h is e = absurd (false_true (ap is_some (sym is) ∙ h.begun n e))
+sized_case symbols table n None true h is e = absurd (false≢true (ap is_some (sym is) ∙ h.begun n e))
 sized_case symbols table n None false h is e = record { size = nothing; has = size_undefined symbols n (some_any (has_number n) symbols ∙ e) }
 
 pub all_nested : {S : Type 0} (symbols : List Symbol) (table : IndexMap ℕ (Option Size) S) → HasSizes symbols table → IsNested symbols

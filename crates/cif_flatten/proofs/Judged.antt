@@ -1,6 +1,6 @@
 -- Why a file is not unfolded, and when it is.
-use Rattle.std.proofs.Common.{◌≡◌, ◌⊎◌, inr, ℕ, ◌^◌, ◌<◌, ◌≤◌, map, List, [], ◌∷◌, ◌++◌, refl, sym, ap, ◌∙◌, subst, arith, Bool, true, false, Result, Err}
-use Rattle.std.specs.Prelude.{Option, Some, None, IfNone, IsSome, ◌↔◌, IsTrue, flat_map}
+use Rattle.std.proofs.Common.{◌≡◌, ◌⊎◌, inr, ℕ, ◌^◌, ◌<◌, ◌≤◌, map, List, [], ◌∷◌, ◌++◌, refl, sym, ap, ◌∙◌, subst, arith, Result, Err}
+use Rattle.std.specs.Prelude.{Option, Some, None, IfNone, IsSome, flat_map}
 use Rattle.std.specs.List.{All, Contains}
 use Rattle.std.proofs.lemmas.List.Elements.{All-append, All-map, All-weaker, All-cons, All-nil, All-head, All-tail, All-contains, All-contains_itself}
 use Rattle.std.proofs.lemmas.List.Folds.{flat_map-map}
@@ -18,13 +18,13 @@ use Rattle.cif_flatten.specs.declared.refusal.FlattenRefusal.TheVariants.{Undefi
 use Rattle.cif_flatten.specs.declared.sizes.Size.{Size}
 use Rattle.cif_flatten.specs.declared.unfolding.Command.{Command}
 use Rattle.cif_flatten.specs.Flat.{Lists}
-use Rattle.cif_flatten.specs.Unfolding.{Placed, Drawn, Marked, drawn_by, marked_by, drawn, marked, IsUnfolding, in_place, calls_among, weight_among}
+use Rattle.cif_flatten.specs.Unfolding.{Placed, Drawn, Marked, drawn_by, marked_by, drawn, marked, calls_among, weight_among}
 use Rattle.cif_flatten.specs.FileSize.{IsFileSize}
-use Rattle.cif_flatten.specs.Faults.{undefined_calls, IsFirst, IsFirstIfAny, IsNested, Recurses, HasManyCalls, HasMuchWeight, most_calls, most_weight, most_fineness, corners, Reaching, reaching, IsInRange, IsOutOfRange, IsTooFine, all_corners, fineness}
+use Rattle.cif_flatten.specs.Faults.{undefined_calls, IsFirst, IsFirstIfAny, IsNested, Recurses, HasManyCalls, HasMuchWeight, most_calls, most_weight, most_fineness, corners, PlacedPoints, reaching, IsInRange, IsOutOfRange, IsTooFine, all_corners, fineness}
 use Rattle.cif_flatten.specs.Flattening.{HasFault, row, IsFirstFault, IsSound, drawn_of, marked_of, IsFlattened}
 use Rattle.cif_flatten.specs.Unrolling.{placed_of, IsAlike, AreAlike, IsUnrolled, reach_by, IsIn, IsOutAt, IsLeastOut, corners_of}
 use Rattle.cif_flatten.proofs.Ranges.{unmapped, all_front, all_back}
-use Rattle.cif_flatten.proofs.Unfoldings.{one_unfolding}
+use Rattle.cif_flatten.proofs.Unfoldings.{one_of_file}
 
 pub some_size : (symbols : List Symbol) (size : Option Size) → IfNone size (Recurses symbols) → IsNested symbols → IsSome size
 some_size symbols None h n = absurd (n.none h.number h.itself)
@@ -94,16 +94,13 @@ pub light_is : (n : ℕ) → n ≤ 32768 → n ≤ most_weight
 unfolding most_weight
 light_is n h = h
 
-one : (file : Contents) (p q : List Placed) → IsUnfolding file p → IsUnfolding file q → p ≡ q
-one file p q h k = one_unfolding file.symbols (in_place [] 0 file.top) p q h k
-
 pub not_many : (file : Contents) (size : Size) → IsFileSize file size → size.calls ≤ 65536 → HasManyCalls file → ⊥
 unfolding most_calls
-not_many file size s few h = omega (arith, s.calls, few, h.many, ap calls_among (one file s.placed h.placed s.unfolded h.unfolded))
+not_many file size s few h = omega (arith, s.calls, few, h.many, ap calls_among (one_of_file file s.placed h.placed s.unfolded h.unfolded))
 
 pub not_much : (file : Contents) (size : Size) → IsFileSize file size → size.weight ≤ 32768 → HasMuchWeight file → ⊥
 unfolding most_weight
-not_much file size s few h = omega (arith, s.weight, few, h.much, ap weight_among (one file s.placed h.placed s.unfolded h.unfolded))
+not_much file size s few h = omega (arith, s.weight, few, h.much, ap weight_among (one_of_file file s.placed h.placed s.unfolded h.unfolded))
 
 -- ---- what is placed alike is drawn alike
 
@@ -140,10 +137,10 @@ marked_alike [] (y ∷ ys) h = absurd h
 marked_alike (x ∷ xs) [] h = absurd h
 marked_alike (x ∷ xs) (y ∷ ys) h = λ i. marked_one x y h.0 i ++ marked_alike xs ys h.1 i
 
-abbrev drawn_reach : Drawn → Reaching
+abbrev drawn_reach : Drawn → PlacedPoints
 drawn_reach d = record { pos = d.pos; points = corners d.figure }
 
-abbrev marked_reach : Marked → Reaching
+abbrev marked_reach : Marked → PlacedPoints
 marked_reach m = record { pos = m.pos; points = m.at ∷ [] }
 
 reaching_alike : (xs ys : List Placed) → AreAlike xs ys → reaching xs ≡ reaching ys
@@ -151,37 +148,37 @@ reaching_alike xs ys h = λ i. map drawn_reach (drawn_alike xs ys h i) ++ map ma
 
 -- ---- all that commands reach
 
-abbrev DrawnAll : (Reaching → Type 0) → Placed → Type 0
+abbrev DrawnAll : (PlacedPoints → Type 0) → Placed → Type 0
 DrawnAll P c = All (λ (d : Drawn). P (drawn_reach d)) (drawn_by c.steps c.item.pos c.item.what)
 
-abbrev MarkedAll : (Reaching → Type 0) → Placed → Type 0
+abbrev MarkedAll : (PlacedPoints → Type 0) → Placed → Type 0
 MarkedAll P c = All (λ (m : Marked). P (marked_reach m)) (marked_by c.steps c.depth c.item.pos c.item.what)
 
-all_drawn : (P : Reaching → Type 0) (cs : List Placed) → All (DrawnAll P) cs → All (λ (d : Drawn). P (drawn_reach d)) (drawn cs)
+all_drawn : (P : PlacedPoints → Type 0) (cs : List Placed) → All (DrawnAll P) cs → All (λ (d : Drawn). P (drawn_reach d)) (drawn cs)
 all_drawn P [] h = All-nil (λ (d : Drawn). P (drawn_reach d))
 all_drawn P (c ∷ cs) h = All-append (λ (d : Drawn). P (drawn_reach d)) (drawn_by c.steps c.item.pos c.item.what) (drawn cs) (All-head (DrawnAll P) c cs h) (all_drawn P cs (All-tail (DrawnAll P) c cs h))
 
-all_marked : (P : Reaching → Type 0) (cs : List Placed) → All (MarkedAll P) cs → All (λ (m : Marked). P (marked_reach m)) (marked cs)
+all_marked : (P : PlacedPoints → Type 0) (cs : List Placed) → All (MarkedAll P) cs → All (λ (m : Marked). P (marked_reach m)) (marked cs)
 all_marked P [] h = All-nil (λ (m : Marked). P (marked_reach m))
 all_marked P (c ∷ cs) h = All-append (λ (m : Marked). P (marked_reach m)) (marked_by c.steps c.depth c.item.pos c.item.what) (marked cs) (All-head (MarkedAll P) c cs h) (all_marked P cs (All-tail (MarkedAll P) c cs h))
 
-all_reaching : (P : Reaching → Type 0) (cs : List Placed) → All (DrawnAll P) cs → All (MarkedAll P) cs → All P (reaching cs)
+all_reaching : (P : PlacedPoints → Type 0) (cs : List Placed) → All (DrawnAll P) cs → All (MarkedAll P) cs → All P (reaching cs)
 all_reaching P cs h k = All-append P (map drawn_reach (drawn cs)) (map marked_reach (marked cs)) (All-map P drawn_reach (drawn cs) (all_drawn P cs h)) (All-map P marked_reach (marked cs) (all_marked P cs k))
 
-drawn_parts : (P : Reaching → Type 0) (cs : List Placed) → All (λ (d : Drawn). P (drawn_reach d)) (drawn cs) → All (DrawnAll P) cs
+drawn_parts : (P : PlacedPoints → Type 0) (cs : List Placed) → All (λ (d : Drawn). P (drawn_reach d)) (drawn cs) → All (DrawnAll P) cs
 drawn_parts P [] h = All-nil (DrawnAll P)
 drawn_parts P (c ∷ cs) h = All-cons (DrawnAll P) c cs (all_front (λ (d : Drawn). P (drawn_reach d)) (drawn_by c.steps c.item.pos c.item.what) (drawn cs) h)
     (drawn_parts P cs (all_back (λ (d : Drawn). P (drawn_reach d)) (drawn_by c.steps c.item.pos c.item.what) (drawn cs) h))
 
-marked_parts : (P : Reaching → Type 0) (cs : List Placed) → All (λ (m : Marked). P (marked_reach m)) (marked cs) → All (MarkedAll P) cs
+marked_parts : (P : PlacedPoints → Type 0) (cs : List Placed) → All (λ (m : Marked). P (marked_reach m)) (marked cs) → All (MarkedAll P) cs
 marked_parts P [] h = All-nil (MarkedAll P)
 marked_parts P (c ∷ cs) h = All-cons (MarkedAll P) c cs (all_front (λ (m : Marked). P (marked_reach m)) (marked_by c.steps c.depth c.item.pos c.item.what) (marked cs) h)
     (marked_parts P cs (all_back (λ (m : Marked). P (marked_reach m)) (marked_by c.steps c.depth c.item.pos c.item.what) (marked cs) h))
 
-reaching_drawn : (P : Reaching → Type 0) (cs : List Placed) → All P (reaching cs) → All (DrawnAll P) cs
+reaching_drawn : (P : PlacedPoints → Type 0) (cs : List Placed) → All P (reaching cs) → All (DrawnAll P) cs
 reaching_drawn P cs h = drawn_parts P cs (unmapped P drawn_reach (drawn cs) (all_front P (map drawn_reach (drawn cs)) (map marked_reach (marked cs)) h))
 
-reaching_marked : (P : Reaching → Type 0) (cs : List Placed) → All P (reaching cs) → All (MarkedAll P) cs
+reaching_marked : (P : PlacedPoints → Type 0) (cs : List Placed) → All P (reaching cs) → All (MarkedAll P) cs
 reaching_marked P cs h = marked_parts P cs (unmapped P marked_reach (marked cs) (all_back P (map drawn_reach (drawn cs)) (map marked_reach (marked cs)) h))
 
 -- ---- out of range
@@ -202,9 +199,9 @@ all_in cs h = all_reaching IsInRange cs
     (All-weaker IsIn (MarkedAll IsInRange) (λ c w. in_marked c.steps c.depth c.item.pos c.item.what w.all) cs h)
 
 pub not_out : (file : Contents) (cs : List Placed) → IsUnrolled file cs → All IsIn cs → (place : ℕ) → IsOutOfRange file place → ⊥
-not_out file cs u h place o = o.out (All-contains IsInRange (reaching o.placed) o.reach (subst (All IsInRange) (sym (reaching_alike u.placed cs u.alike) ∙ ap reaching (one file u.placed o.placed u.unfolded o.unfolded)) (all_in cs h)) o.one)
+not_out file cs u h place o = o.out (All-contains IsInRange (reaching o.placed) o.reach (subst (All IsInRange) (sym (reaching_alike u.placed cs u.alike) ∙ ap reaching (one_of_file file u.placed o.placed u.unfolded o.unfolded)) (all_in cs h)) o.one)
 
-abbrev LaterReach : ℕ → Reaching → Type 0
+abbrev LaterReach : ℕ → PlacedPoints → Type 0
 LaterReach place r = (IsInRange r → ⊥) → place ≤ r.pos
 
 later_drawn : (steps : List Step) (place at : ℕ) (what : What) → ((All (IsPointWithin (2 ^ 24)) (reach_by steps what) → ⊥) → place ≤ at) → All (λ (d : Drawn). LaterReach place (drawn_reach d)) (drawn_by steps at what)
@@ -226,13 +223,13 @@ all_later place cs h = all_reaching (LaterReach place) cs
     (All-weaker (LaterCommand place) (MarkedAll (LaterReach place)) (λ c f. later_marked c.steps c.depth place c.item.pos c.item.what (λ out. f (λ w. out w.all))) cs h)
 
 -- what is reached by a command that reaches out
-record Out (all : List Reaching) (place : ℕ) : Type 0 where
-  reach : Reaching
+record Out (all : List PlacedPoints) (place : ℕ) : Type 0 where
+  reach : PlacedPoints
   there : Contains all reach
   at : reach.pos ≡ place
   out : IsInRange reach → ⊥
 
-out_by : (all : List Reaching) (steps : List Step) (depth place : ℕ) (what : What) → All (λ (d : Drawn). Contains all (drawn_reach d)) (drawn_by steps place what) → All (λ (m : Marked). Contains all (marked_reach m)) (marked_by steps depth place what)
+out_by : (all : List PlacedPoints) (steps : List Step) (depth place : ℕ) (what : What) → All (λ (d : Drawn). Contains all (drawn_reach d)) (drawn_by steps place what) → All (λ (m : Marked). Contains all (marked_reach m)) (marked_by steps depth place what)
     → (All (IsPointWithin (2 ^ 24)) (reach_by steps what) → ⊥) → Out all place
 out_by all steps depth place (Draw layer shape) h k out = record { reach = drawn_reach (record { layer = layer; figure = moved_figure steps (figure_of shape); pos = place }); there = All-head (λ (d : Drawn). Contains all (drawn_reach d)) _ [] h; at = refl; out = out }
 out_by all steps depth place (Call number there) h k out = absurd (out (All-nil (IsPointWithin (2 ^ 24))))
@@ -274,12 +271,6 @@ each_in commands h = unmapped IsIn placed_of commands h
 pub inside_from : (items shown other : List Command) (least : Option ℕ) → shown ≡ items → other ≡ items → IsLeastOut (map placed_of shown) least → least ≡ None → All (λ (c : Command). IsIn (placed_of c)) other
 inside_from items shown other least a b h is = subst (All (λ (c : Command). IsIn (placed_of c))) (a ∙ sym b) (each_in shown (least_none (map placed_of shown) least h is))
 
-false_true : false ≡ true → ⊥
-false_true h = cc
-
-pub not_true : {A : Type 0} (b : Bool) → b ≡ false → IsTrue b ↔ A → A → ⊥
-not_true b e h a = false_true (sym e ∙ h.1 a)
-
 -- ---- too fine
 
 corners_are : (draws : List Draw') (cs placed : List Placed) → map drawn_of draws ≡ drawn cs → AreAlike placed cs → corners_of draws ≡ all_corners placed
@@ -291,7 +282,7 @@ fine file cs draws u is h = record { placed = u.placed; unfolded = u.unfolded; f
 
 pub not_fine : (file : Contents) (cs : List Placed) (draws : List Draw') → IsUnrolled file cs → map drawn_of draws ≡ drawn cs → (most_fineness < fineness (corners_of draws) → ⊥) → IsTooFine file → ⊥
 not_fine file cs draws u is h f =
-    h (subst (λ points. most_fineness < fineness points) (sym (corners_are draws cs u.placed is u.alike ∙ ap all_corners (one file u.placed f.placed u.unfolded f.unfolded))) f.fine)
+    h (subst (λ points. most_fineness < fineness points) (sym (corners_are draws cs u.placed is u.alike ∙ ap all_corners (one_of_file file u.placed f.placed u.unfolded f.unfolded))) f.fine)
 
 -- ---- the layout
 

@@ -1,3 +1,4 @@
+pub mod Cases
 pub mod First
 pub mod Lookups
 pub mod Unfoldings

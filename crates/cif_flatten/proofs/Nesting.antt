@@ -1,5 +1,6 @@
 -- What unfolds does not call itself.
-use Rattle.std.proofs.Common.{◌≡◌, ℕ, zero, suc, ◌+◌, ◌<◌, ◌≤◌, length, Bool, true, false, ◌||◌, List, [], ◌∷◌, ◌++◌, refl, sym, ap, subst, arith, eqb-true, length-append}
+use Rattle.std.proofs.Common.{◌≡◌, ℕ, zero, suc, ◌+◌, ◌<◌, ◌≤◌, length, true, List, [], ◌∷◌, ◌++◌, sym, ap, subst, arith, eqb-true, length-append}
+use Rattle.std.proofs.lemmas.Bool.{false≢true}
 use Rattle.plane_geom.specs.Placement.{Step, steps_of}
 use Rattle.cif_reader.specs.declared.file.Item.{Item}
 use Rattle.cif_reader.specs.declared.file.Symbol.{Symbol}
@@ -7,6 +8,7 @@ use Rattle.cif_reader.specs.declared.file.What.{What}
 use Rattle.cif_reader.specs.declared.file.What.TheVariants.{Draw, Call, Mark}
 use Rattle.cif_flatten.specs.Unfolding.{Placed, in_place, items_of, opened_by, Unfolds}
 use Rattle.cif_flatten.specs.Faults.{is_call_of, has_call, CallsAlong, CallsThrough}
+use Rattle.cif_flatten.proofs.Cases.{cons_not_nil, or_case}
 use Rattle.cif_flatten.proofs.Unfoldings.{Split, unfolds_split}
 
 -- The symbol unfolds somewhere to fewer commands.
@@ -17,14 +19,8 @@ pub record Inner (symbols : List Symbol) (number most : ℕ) : Type 0 where
   pub unfolds : Unfolds symbols (in_place steps depth (items_of symbols number)) inside
   pub fewer : length inside < most
 
-false_true : false ≡ true → ⊥
-false_true h = cc
-
-cons_not_nil : (x : Placed) (xs : List Placed) → x ∷ xs ≡ [] → ⊥
-cons_not_nil x xs h = cc
-
 opened_call : (symbols : List Symbol) (b : ℕ) (what : What) (steps : List Step) (depth : ℕ) (left : List Placed) (most : ℕ) → is_call_of b what ≡ true → Unfolds symbols (opened_by symbols steps depth what) left → length left < most → Inner symbols b most
-opened_call symbols b (Draw layer shape) steps depth left most is u few = absurd (false_true is)
+opened_call symbols b (Draw layer shape) steps depth left most is u few = absurd (false≢true is)
 opened_call symbols b (Call called place) steps depth left most is u few = record {
   steps = steps_of place ++ steps;
   depth = depth + 1;
@@ -32,11 +28,7 @@ opened_call symbols b (Call called place) steps depth left most is u few = recor
   unfolds = subst (λ n. Unfolds symbols (in_place (steps_of place ++ steps) (depth + 1) (items_of symbols n)) left) (sym (eqb-true b called is)) u;
   fewer = few;
 }
-opened_call symbols b (Mark name at layer) steps depth left most is u few = absurd (false_true is)
-
-or_case : {P : Type 0} (a b : Bool) → (a || b) ≡ true → (a ≡ true → P) → (b ≡ true → P) → P
-or_case true b h f g = f refl
-or_case false b h f g = g h
+opened_call symbols b (Mark name at layer) steps depth left most is u few = absurd (false≢true is)
 
 fewer_than : (symbols : List Symbol) (b m n : ℕ) → Inner symbols b m → m ≤ n → Inner symbols b n
 fewer_than symbols b m n h le = record { steps = h.steps; depth = h.depth; inside = h.inside; unfolds = h.unfolds; fewer = omega (arith, h.fewer, le) }
@@ -49,7 +41,7 @@ right_fewer c left right placed is = omega (arith, ap (λ l. length l) is, lengt
 
 -- A called symbol unfolds to fewer commands.
 inner : (symbols : List Symbol) (b : ℕ) (steps : List Step) (depth : ℕ) (items : List Item) (placed : List Placed) → has_call b items ≡ true → Unfolds symbols (in_place steps depth items) placed → Inner symbols b (length placed)
-inner symbols b steps depth [] placed has u = absurd (false_true has)
+inner symbols b steps depth [] placed has u = absurd (false≢true has)
 inner symbols b steps depth (item ∷ items) [] has u = absurd (cons_not_nil _ _ u)
 inner symbols b steps depth (item ∷ items) (c ∷ placed) has u =
     let s : Split symbols (opened_by symbols steps depth item.what) (in_place steps depth items) placed = unfolds_split symbols (opened_by symbols steps depth item.what) (in_place steps depth items) placed u.1 in

@@ -1,21 +1,17 @@
 -- A file has one answer.
-use Rattle.std.proofs.Common.{◌≡◌, ℕ, ◌<◌, ◌≤◌, map, Bool, true, false, List, [], refl, sym, ap, ◌∙◌, subst, arith}
-use Rattle.std.specs.Prelude.{nat_lt}
+use Rattle.std.proofs.Common.{◌≡◌, ℕ, ◌≤◌, map, refl, sym, ap, ◌∙◌, subst, arith}
 use Rattle.std.specs.List.{Contains}
-use Rattle.std.proofs.lemmas.Bool.Decides.{nat_tests}
 use Rattle.std.proofs.lemmas.List.Elements.{All-contains}
 use Rattle.cif_reader.specs.File.{Contents}
 use Rattle.cif_flatten.specs.declared.calls.UndefinedCall.{UndefinedCall}
 use Rattle.cif_flatten.specs.declared.refusal.FlattenRefusal.{FlattenRefusal}
 use Rattle.cif_flatten.specs.declared.refusal.FlattenRefusal.TheVariants.{Undefined, Recursive, TooManyCalls, TooManyEdges, OutOfRange, TooFine, NoMemory}
 use Rattle.cif_flatten.specs.Flat.{Lists}
-use Rattle.cif_flatten.specs.Unfolding.{Placed, IsUnfolding, in_place, drawn, marked}
-use Rattle.cif_flatten.specs.Faults.{IsUndefined, undefined_calls, Reaching, reaching, IsInRange, IsOutOfRange}
+use Rattle.cif_flatten.specs.Unfolding.{drawn, marked}
+use Rattle.cif_flatten.specs.Faults.{IsUndefined, undefined_calls, PlacedPoints, reaching, IsInRange, IsOutOfRange}
 use Rattle.cif_flatten.specs.Flattening.{HasFault, row, IsFirstFault, IsFlattened, AreCallsApart, drawn_of, marked_of}
-use Rattle.cif_flatten.proofs.Unfoldings.{one_unfolding}
-
-pub one_of_file : (file : Contents) (p q : List Placed) → IsUnfolding file p → IsUnfolding file q → p ≡ q
-one_of_file file p q h k = one_unfolding file.symbols (in_place [] 0 file.top) p q h k
+use Rattle.cif_flatten.proofs.Cases.{not_less}
+use Rattle.cif_flatten.proofs.Unfoldings.{one_of_file}
 
 pub one_layout : (file : Contents) (f g : Lists) → IsFlattened file f → IsFlattened file g → (map drawn_of f.draws ≡ map drawn_of g.draws) × (map marked_of f.marks ≡ map marked_of g.marks)
 one_layout file f g h k =
@@ -37,7 +33,7 @@ before : (file : Contents) (p q : ℕ) → IsOutOfRange file p → IsOutOfRange 
 before file p q h k = omega (
   arith,
   k.at,
-  All-contains (λ (r : Reaching). (IsInRange r → ⊥) → p ≤ r.pos) (reaching h.placed) k.reach h.least
+  All-contains (λ (r : PlacedPoints). (IsInRange r → ⊥) → p ≤ r.pos) (reaching h.placed) k.reach h.least
       (subst (λ cs. Contains (reaching cs) k.reach) (one_of_file file k.placed h.placed k.unfolded h.unfolded) k.one) k.out,
 )
 
@@ -92,12 +88,8 @@ same_fault file NoMemory (OutOfRange place') apart e h k = absurd (omega (arith,
 same_fault file NoMemory TooFine apart e h k = absurd (omega (arith, e))
 same_fault file NoMemory NoMemory apart e h k = refl
 
-row_case : (m n : ℕ) (t : Bool) → nat_lt m n ≡ t → (m < n → ⊥) → n ≤ m
-row_case m n true e h = absurd (h (grind (arith, nat_tests)))
-row_case m n false e h = grind (arith, nat_tests)
-
 not_later : (file : Contents) (r s : FlattenRefusal) → IsFirstFault file r → IsFirstFault file s → row s ≤ row r
-not_later file r s h k = row_case (row r) (row s) (nat_lt (row r) (row s)) refl (λ lt. k.first r lt h.fault)
+not_later file r s h k = not_less (row r) (row s) (λ lt. k.first r lt h.fault)
 
 pub one_fault : (file : Contents) (r s : FlattenRefusal) → AreCallsApart file → IsFirstFault file r → IsFirstFault file s → r ≡ s
 one_fault file r s apart h k = same_fault file r s apart (same_number (row r) (row s) (not_later file s r k h) (not_later file r s h k)) h.fault k.fault

@@ -1,12 +1,11 @@
 -- In a layout that is read, each call has its own position.
-use Rattle.std.proofs.Common.{◌≡◌, ◌⊎◌, inl, inr, ℕ, ◌+◌, ◌<◌, Bool, true, false, List, [], ◌∷◌, ◌++◌, length, map, Option, None, Some, All, refl, sym, ◌∙◌, ap, subst, arith, if◌then◌else◌}
-use Rattle.std.specs.Prelude.{codes}
+use Rattle.std.proofs.Common.{◌≡◌, ◌⊎◌, inl, inr, ℕ, ◌<◌, Bool, true, false, List, [], ◌∷◌, ◌++◌, length, map, Option, None, Some, All, refl, sym, ◌∙◌, ap, subst, arith, if◌then◌else◌}
 use Rattle.std.specs.List.{list_any, Contains}
 use Rattle.std.proofs.lemmas.List.{length-append}
 use Rattle.std.proofs.lemmas.List.Elements.{All-nil, All-cons, All-append}
+use Rattle.cif_grammar.proofs.Walking.{end_some}
 use Rattle.plane_geom.specs.Covering.{Figure}
-use Rattle.cif_grammar.specs.Words.{Literally, Run, ◌⋅◌, is_blank}
-use Rattle.cif_grammar.specs.Grammar.{Command, box, polygon, wire, layer, call, user, comment, start, finish, Placed, Items, is_inside, is_gap, end}
+use Rattle.cif_grammar.specs.Grammar.{Command, box, polygon, wire, layer, call, user, comment, start, finish, Placed, Items, is_inside}
 use Rattle.cif_reader.specs.declared.file.Item.{Item}
 use Rattle.cif_reader.specs.declared.file.Symbol.{Symbol}
 use Rattle.cif_reader.specs.declared.file.What.{What}
@@ -24,23 +23,6 @@ use Rattle.cif_flatten.specs.Flattening.{AreCallsApart}
 Falls : ℕ → List Placed → Type 0
 Falls bound [] = Unit {0}
 Falls bound (c ∷ before) = (c.at < bound) × Falls c.at before
-
-closed : (at : ℕ) (word : List ℕ) → (Literally (codes ";") ⋅ Run is_gap) at word → 0 < length word
-closed at word w = omega (arith, ap length w.whole, length-append w.front w.back, ap length w.first)
-
-closed_behind : (at : ℕ) (word : List ℕ) → (Run is_blank ⋅ Literally (codes ";") ⋅ Run is_gap) at word → 0 < length word
-closed_behind at word w = omega (arith, ap length w.whole, length-append w.front w.back, closed (at + length w.front) w.back w.second)
-
-end_some : (c : Command) (at : ℕ) (word : List ℕ) → end c at word → 0 < length word
-end_some (box l w p d) at word e = closed_behind at word e
-end_some (polygon p) at word e = closed_behind at word e
-end_some (wire w p) at word e = closed_behind at word e
-end_some (layer name) at word e = closed_behind at word e
-end_some (call n ts) at word e = closed_behind at word e
-end_some (user text) at word e = closed at word e
-end_some comment at word e = closed_behind at word e
-end_some (start n s) at word e = closed_behind at word e
-end_some finish at word e = closed_behind at word e
 
 items_fall : (commands : List Placed) (front : List ℕ) → Items commands 0 front → Falls (length front) commands
 unfolding Falls

@@ -19,12 +19,13 @@ use Rattle.plane_geom.specs.Placement.{moved, steps_of, placed, IsShiftWithin}
 use Rattle.cif_grammar.specs.Words.{limit}
 use Rattle.cif_reader.specs.declared.file.What.{What}
 use Rattle.cif_reader.specs.declared.file.What.TheVariants.{Draw, Call, Mark}
-use Rattle.cif_reader.specs.File.{IsKept, IsDrawn}
+use Rattle.cif_reader.specs.File.{IsKeptWhat, IsDrawn}
 use Rattle.cif_flatten.specs.declared.unfolding.Command.{Command}
 use Rattle.cif_flatten.specs.declared.flat.Draw.{Draw as Draw'}
 use Rattle.cif_flatten.specs.Unfolding.{Placed}
 use Rattle.cif_flatten.specs.Faults.{rect_corners, corners, most_fineness, count_distinct, fineness}
 use Rattle.cif_flatten.specs.Unrolling.{placed_of, reach_by, IsIn, IsOutAt, IsLeastOut, lesser_of, IsPairIn, IsWideAt, IsWideIn, IsDrawable, corners_of}
+use Rattle.cif_flatten.proofs.Cases.{min_case}
 
 -- ---- what a file keeps, with room
 
@@ -40,14 +41,14 @@ near_figure (block r) h = record { x0 = near_within r.x0 h.x0; y0 = near_within 
 near_figure (polygon points) h = All-weaker (IsPointWithin limit) (IsPointWithin (2 ^ 60)) near_point points h
 near_figure (wire half path) h = (near_within half h.0, All-weaker (IsPointWithin limit) (IsPointWithin (2 ^ 60)) near_point path h.1)
 
-pub drawable : (what : What) (layer : List ℕ) (shape : Shape) → what ≡ Draw layer shape → IsKept what → IsDrawable (figure_of shape)
-drawable what layer shape is h = let k : IsDrawn shape = subst IsKept is h in record { formed = k.formed; within = near_figure (figure_of shape) k.within }
+pub drawable : (what : What) (layer : List ℕ) (shape : Shape) → what ≡ Draw layer shape → IsKeptWhat what → IsDrawable (figure_of shape)
+drawable what layer shape is h = let k : IsDrawn shape = subst IsKeptWhat is h in record { formed = k.formed; within = near_figure (figure_of shape) k.within }
 
-pub markable : (what : What) (name : List ℕ) (at : Point) (layer : Option (List ℕ)) → what ≡ Mark name at layer → IsKept what → IsPointWithin (2 ^ 60) at
-markable what name at layer is h = near_point at (subst IsKept is h)
+pub markable : (what : What) (name : List ℕ) (at : Point) (layer : Option (List ℕ)) → what ≡ Mark name at layer → IsKeptWhat what → IsPointWithin (2 ^ 60) at
+markable what name at layer is h = near_point at (subst IsKeptWhat is h)
 
-pub callable : (what : What) (number : ℕ) (place : Place) → what ≡ Call number place → IsKept what → IsShiftWithin limit place
-callable what number place is h = subst IsKept is h
+pub callable : (what : What) (number : ℕ) (place : Place) → what ≡ Call number place → IsKeptWhat what → IsShiftWithin limit place
+callable what number place is h = subst IsKeptWhat is h
 
 -- ---- points
 
@@ -250,13 +251,6 @@ out_none done c place h e out = record {
   least = All-push (Later place) done c (All-weaker IsIn (Later place) (λ d w k. absurd (k w)) done h) (λ k. omega (arith, e));
 }
 
-split : (a b : ℕ) (t : Bool) → nat_lt a b ≡ t → (a < b) ⊎ (b ≤ a)
-split a b true e = inl (grind (arith, nat_tests))
-split a b false e = inr (grind (arith, nat_tests))
-
-min_of : (a b r : ℕ) → r ≡ min a b → (r ≡ a) ⊎ (r ≡ b)
-min_of a b r e = elim (split a b (nat_lt a b) refl) [ inl less ↦ inl (omega (arith, e, less)) | inr more ↦ inr (omega (arith, e, more)) ]
-
 out_at : (done : List Placed) (c : Placed) (old place : ℕ) → IsOutAt done old → (IsIn c → ⊥) → place ≡ min old c.item.pos → (place ≡ old) ⊎ (place ≡ c.item.pos) → IsOutAt (done ++ c ∷ []) place
 out_at done c old place h out e (inl same) = record {
   command = h.command;
@@ -275,7 +269,7 @@ out_at done c old place h out e (inr same) = record {
 
 out_case : (done : List Placed) (c : Placed) (least : Option ℕ) (place : ℕ) → IsLeastOut done least → (IsIn c → ⊥) → place ≡ lesser_of least c.item.pos → IsOutAt (done ++ c ∷ []) place
 out_case done c None place h out e = out_none done c place h e out
-out_case done c (Some old) place h out e = out_at done c old place h out e (min_of old c.item.pos place e)
+out_case done c (Some old) place h out e = out_at done c old place h out e (min_case old c.item.pos place e)
 
 same_case : (done : List Placed) (c : Placed) (least : Option ℕ) → IsLeastOut done least → IsIn c → IsLeastOut (done ++ c ∷ []) least
 same_case done c None h w = All-push IsIn done c h w
@@ -295,12 +289,6 @@ same_more commands i x least inside is h w =
 
 pub out_all : (commands : List Command) (i : ℕ) (least : Option ℕ) → length commands ≤ i → IsLeastOut (map placed_of (take i commands)) least → IsLeastOut (map placed_of commands) least
 out_all commands i least whole h = subst (λ cs. IsLeastOut (map placed_of cs) least) (take_all i commands whole) h
-
-false_true : false ≡ true → ⊥
-false_true h = cc
-
-pub not_in : (b : Bool) (A : Type 0) → b ≡ false → IsTrue b ↔ A → A → ⊥
-not_in b A e h a = false_true (sym e ∙ h.1 a)
 
 -- ---- too fine
 

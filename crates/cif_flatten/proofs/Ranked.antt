@@ -4,7 +4,8 @@ use Rattle.std.specs.Prelude.{Option, Some, None, not, nat_lt}
 use Rattle.std.proofs.Math.Seq.{take-suc}
 use Rattle.std.proofs.lemmas.Bool.Decides.{nat_tests}
 use Rattle.std.proofs.lemmas.List.Folds.{list_any-append}
-use Rattle.std.proofs.lemmas.Option.{none-some}
+use Rattle.std.proofs.lemmas.Option.{none-some, same_Some}
+use Rattle.std.proofs.lemmas.Bool.{false≢true}
 use Rattle.cif_reader.specs.declared.file.Item.{Item}
 use Rattle.cif_reader.specs.declared.file.Symbol.{Symbol}
 use Rattle.cif_reader.specs.File.{Contents}
@@ -13,19 +14,20 @@ use Rattle.cif_flatten.specs.Faults.{is_call_of, has_call, calls, CallsAlong, Ca
 use Rattle.cif_flatten.specs.Sizes.{called_by}
 use Rattle.cif_flatten.specs.Reaching.{is_defined, IsLesser}
 use Rattle.cif_flatten.specs.Ranking.{IsHeight, NeverRises, IsBefore, FallsBefore}
-use Rattle.cif_flatten.proofs.Circling.{false_true, or_case, some_is, one_call, defined_caller, new_number}
+use Rattle.cif_flatten.proofs.Cases.{or_case, not_less}
+use Rattle.cif_flatten.proofs.Circling.{one_call, defined_caller, new_number}
 
 -- ---- the height of items
 
 pub height_nil : (rank : ℕ → ℕ) → IsHeight rank [] 0
-height_nil rank = λ n h. absurd (false_true h)
+height_nil rank = λ n h. absurd (false≢true h)
 
 pub height_none : (rank : ℕ → ℕ) (item : Item) → None ≡ called_by item.what → IsHeight rank (item ∷ []) 0
 height_none rank item none = λ n h. absurd (none-some n (none ∙ one_call n item h))
 
 pub height_one : (rank : ℕ → ℕ) (item : Item) (m : ℕ) → Some m ≡ called_by item.what → IsHeight rank (item ∷ []) (rank m)
 height_one rank item m is = λ n h.
-    let same : m ≡ n = some_is m n (is ∙ one_call n item h) in
+    let same : m ≡ n = same_Some m n (is ∙ one_call n item h) in
     omega (arith, ap rank same)
 
 height_append : (rank : ℕ → ℕ) (xs ys : List Item) (h k m : ℕ) → h ≤ m → k ≤ m → IsHeight rank xs h → IsHeight rank ys k → IsHeight rank (xs ++ ys) m
@@ -98,15 +100,11 @@ first_falls : (symbols : List Symbol) (rank : ℕ → ℕ) (n : ℕ) → NeverRi
 first_falls symbols rank n never falls a [] b less h = falls a b (defined_caller symbols a b h) less h
 first_falls symbols rank n never falls a (c ∷ cs) b less h = omega (arith, falls a c (defined_caller symbols a c h.0) less h.0, along_falls symbols rank never c cs b h.1)
 
-not_less : (a n : ℕ) (b : Bool) → nat_lt a n ≡ b → (a < n → ⊥) → n ≤ a
-not_less a n true e h = absurd (h (grind (arith, nat_tests)))
-not_less a n false e h = grind (arith, nat_tests)
-
 below_itself : (k : ℕ) → k < k → ⊥
 below_itself k h = omega (arith, h)
 
 pub ranked_recursive : (file : Contents) (rank : ℕ → ℕ) (n : ℕ) → NeverRises file.symbols rank file.symbols → FallsBefore file.symbols rank file.symbols (Some n) → CallsThrough file.symbols n n → IsRecursive file n
 ranked_recursive file rank n never falls itself = record {
   itself = itself;
-  least = λ other through. not_less other n (nat_lt other n) refl (λ less. below_itself (rank other) (first_falls file.symbols rank n never falls other through.through other less through.along));
+  least = λ other through. not_less other n (λ less. below_itself (rank other) (first_falls file.symbols rank n never falls other through.through other less through.along));
 }

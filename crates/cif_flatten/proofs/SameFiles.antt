@@ -15,7 +15,8 @@ use Rattle.cif_flatten.specs.declared.refusal.FlattenRefusal.{FlattenRefusal}
 use Rattle.cif_flatten.specs.declared.refusal.FlattenRefusal.TheVariants.{Undefined, Recursive, TooManyCalls, TooManyEdges, OutOfRange, TooFine, NoMemory}
 use Rattle.cif_flatten.specs.Flat.{Lists}
 use Rattle.cif_flatten.specs.Unfolding.{Placed, in_place, items_in, items_of, opened, opened_by, Unfolds, IsUnfolding, call_count, figure_weight, weight, calls_among, weight_among, Drawn, Marked, drawn_by, marked_by, drawn, marked}
-use Rattle.cif_flatten.specs.Faults.{undefined_by, undefined_among, undefined_in_symbols, undefined_calls, IsFirst, is_call_of, has_call, calls, CallsAlong, CallsThrough, most_calls, most_weight, most_fineness, corners, Reaching, reaching, IsInRange, fineness}
+use Rattle.cif_flatten.specs.Faults.{undefined_by, undefined_among, undefined_in_symbols, undefined_calls, IsFirst, is_call_of, has_call, calls, CallsAlong, CallsThrough, most_calls, most_weight, most_fineness, corners, PlacedPoints, reaching, IsInRange, fineness}
+use Rattle.cif_flatten.proofs.Cases.{cons_not_nil}
 use Rattle.cif_flatten.specs.Flattening.{HasFault, IsFlattened, IsFirstFault}
 
 -- ---- the other way round
@@ -175,9 +176,6 @@ record Unfolded (symbols : List Symbol) (commands placed : List Placed) : Type 0
   unfolds : Unfolds symbols commands other
   same : AreSamePlaced placed other
 
-cons_not_nil : (x : Placed) (xs : List Placed) → x ∷ xs ≡ [] → ⊥
-cons_not_nil x xs h = cc
-
 unfolded_more : (ts : List Symbol) (c x y : Placed) (ys p : List Placed) → c ≡ x → SamePlaced x y → Unfolded ts (opened ts y ++ ys) p → Unfolded ts (y ∷ ys) (c ∷ p)
 unfolding AreSamePlaced
 unfolded_more ts c x y ys p e h r = record { other = y ∷ r.other; unfolds = (refl, r.unfolds); same = (subst (λ z. SamePlaced z y) (sym e) h, r.same) }
@@ -297,7 +295,7 @@ fault_same f g TooManyEdges s h =
 fault_same f g (OutOfRange place) s h =
     let u : Unfolded g.symbols (in_place [] 0 g.top) h.placed = file_unfolded f g h.placed s h.unfolded in
     let same : reaching h.placed ≡ reaching u.other = reaching_same h.placed u.other u.same in
-    record { placed = u.other; unfolded = u.unfolds; reach = h.reach; one = subst (λ all. Contains all h.reach) same h.one; at = h.at; out = h.out; least = subst (λ all. All (λ (r : Reaching). (IsInRange r → ⊥) → place ≤ r.pos) all) same h.least }
+    record { placed = u.other; unfolded = u.unfolds; reach = h.reach; one = subst (λ all. Contains all h.reach) same h.one; at = h.at; out = h.out; least = subst (λ all. All (λ (r : PlacedPoints). (IsInRange r → ⊥) → place ≤ r.pos) all) same h.least }
 fault_same f g TooFine s h =
     let u : Unfolded g.symbols (in_place [] 0 g.top) h.placed = file_unfolded f g h.placed s h.unfolded in
     record { placed = u.other; unfolded = u.unfolds; fine = subst (λ ds. most_fineness < fineness (flat_map (λ (d : Drawn). corners d.figure) ds)) (drawn_same h.placed u.other u.same) h.fine }

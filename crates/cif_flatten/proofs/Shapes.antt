@@ -1,13 +1,14 @@
 -- What placed shapes keep.
-use Rattle.std.proofs.Common.{◌≡◌, ◌⊎◌, inl, inr, ◌^◌, ◌<◌, map, Bool, true, false, ◌||◌, ◌&&◌, List, [], ◌∷◌, ◌++◌, refl, sym, ap, ◌∙◌, subst, arith}
+use Rattle.std.proofs.Common.{◌≡◌, ◌⊎◌, inl, inr, ◌^◌, ◌<◌, map, true, ◌||◌, List, [], ◌∷◌, ◌++◌, refl, sym, ap, ◌∙◌, subst, arith}
 use Rattle.std.specs.Prelude.{ℤ, pos, neg_ℤ, ◌+ℤ◌, ◌-ℤ◌, ◌≤ℤ◌}
 use Rattle.std.specs.List.{All, list_all}
 use Rattle.std.specs.Int.{int_min, int_max}
 use Rattle.std.specs.Ordering.{int_eq}
 use Rattle.std.proofs.lemmas.Int.{ints, clamps}
-use Rattle.std.proofs.lemmas.Bool.Decides.{nat_tests}
+use Rattle.std.proofs.lemmas.Bool.Decides.{Decides-int_eq}
 use Rattle.std.proofs.lemmas.List.{length-map, map-append}
 use Rattle.std.proofs.lemmas.List.Elements.{All-weaker, All-head}
+use Rattle.std.proofs.lemmas.Bool.{or_right, and_parts, and_from}
 use Rattle.plane_geom.specs.declared.shapes.Point.{Point}
 use Rattle.plane_geom.specs.declared.shapes.Rect.{Rect}
 use Rattle.plane_geom.specs.declared.shapes.Shape.{Shape}
@@ -17,35 +18,22 @@ use Rattle.plane_geom.specs.Placement.{Step, shift, negate_x, negate_y, exchange
 use Rattle.cif_flatten.specs.Faults.{rect_corners, corners}
 use Rattle.cif_flatten.specs.Flat.{IsShapeWithin}
 use Rattle.cif_flatten.specs.Unrolling.{IsWideIn, IsDrawable}
+use Rattle.cif_flatten.proofs.Cases.{or_case}
 use Rattle.cif_flatten.proofs.Ranges.{path_out, second, narrow}
-
-equal_is : (x y : ℤ) → int_eq x y ≡ true → x ≡ y
-equal_is x y is = grind (arith, ints, nat_tests, is)
-
-is_equal : (x y : ℤ) → x ≡ y → int_eq x y ≡ true
-is_equal x y is = grind (arith, ints, nat_tests, is)
 
 -- ---- edges stay on the axes
 
 Along : Point → Point → Type 0
 Along p q = (p.x ≡ q.x) ⊎ (p.y ≡ q.y)
 
-or_case : {P : Type 0} (a b : Bool) → (a || b) ≡ true → (a ≡ true → P) → (b ≡ true → P) → P
-or_case true b h f g = f refl
-or_case false b h f g = g h
-
-or_right : (a b : Bool) → b ≡ true → (a || b) ≡ true
-or_right true b h = refl
-or_right false b h = h
-
 is_on : (p q : Point) → is_along (p, q) ≡ true → Along p q
 unfolding Along
-is_on p q h = or_case (int_eq p.x q.x) (int_eq p.y q.y) h (λ e. inl (equal_is p.x q.x e)) (λ e. inr (equal_is p.y q.y e))
+is_on p q h = or_case (int_eq p.x q.x) (int_eq p.y q.y) h (λ e. inl ((Decides-int_eq p.x q.x).0 e)) (λ e. inr ((Decides-int_eq p.y q.y).0 e))
 
 on_is : (p q : Point) → Along p q → is_along (p, q) ≡ true
 unfolding Along
-on_is p q (inl e) = ap (λ b. b || int_eq p.y q.y) (is_equal p.x q.x e)
-on_is p q (inr e) = or_right (int_eq p.x q.x) (int_eq p.y q.y) (is_equal p.y q.y e)
+on_is p q (inl e) = ap (λ b. b || int_eq p.y q.y) ((Decides-int_eq p.x q.x).1 e)
+on_is p q (inr e) = or_right (int_eq p.x q.x) (int_eq p.y q.y) ((Decides-int_eq p.y q.y).1 e)
 
 along_once : (s : Step) (p q : Point) → Along p q → Along (moved_once s p) (moved_once s q)
 unfolding Along
@@ -65,24 +53,12 @@ along_moved (s ∷ steps) p q h = along_moved steps (moved_once s p) (moved_once
 along_edge : (steps : List Step) (e : Point × Point) → is_along e ≡ true → is_along (moved steps e.0, moved steps e.1) ≡ true
 along_edge steps e h = on_is (moved steps e.0) (moved steps e.1) (along_moved steps e.0 e.1 (is_on e.0 e.1 h))
 
-and_left : (a b : Bool) → (a && b) ≡ true → a ≡ true
-and_left true b h = refl
-and_left false b h = h
-
-and_right : (a b : Bool) → (a && b) ≡ true → b ≡ true
-and_right true b h = h
-and_right false true h = refl
-and_right false false h = h
-
-both : (a b : Bool) → a ≡ true → b ≡ true → (a && b) ≡ true
-both a b h k = ap (λ c. c && b) h ∙ k
-
 abbrev moved_edge : List Step → Point × Point → Point × Point
 moved_edge steps e = (moved steps e.0, moved steps e.1)
 
 all_along : (steps : List Step) (edges : List (Point × Point)) → list_all is_along edges ≡ true → list_all is_along (map (moved_edge steps) edges) ≡ true
 all_along steps [] h = refl
-all_along steps (e ∷ edges) h = both (is_along (moved_edge steps e)) (list_all is_along (map (moved_edge steps) edges)) (along_edge steps e (and_left (is_along e) (list_all is_along edges) h)) (all_along steps edges (and_right (is_along e) (list_all is_along edges) h))
+all_along steps (e ∷ edges) h = and_from (is_along (moved_edge steps e)) (list_all is_along (map (moved_edge steps) edges)) (along_edge steps e (and_parts (is_along e) (list_all is_along edges) h).0) (all_along steps edges (and_parts (is_along e) (list_all is_along edges) h).1)
 
 edges_map : (steps : List Step) (p : Point) (qs : List Point) → edges_from (moved steps p) (map (moved steps) qs) ≡ map (moved_edge steps) (edges_from p qs)
 edges_map steps p [] = refl

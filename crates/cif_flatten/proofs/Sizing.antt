@@ -4,7 +4,7 @@ use Rattle.std.specs.Prelude.{min, true, false, Option, Some, None, is_some, fin
 use Rattle.std.proofs.Math.Seq.{take-suc}
 use Rattle.std.proofs.lemmas.List.{append-nil, map-append}
 use Rattle.std.proofs.lemmas.List.Sums.{sum_by-cons, sum_by-append}
-use Rattle.std.proofs.lemmas.Option.{none-some}
+use Rattle.std.proofs.lemmas.Option.{none-some, same_Some}
 use Rattle.plane_geom.specs.declared.places.Place.{Place}
 use Rattle.plane_geom.specs.Placement.{Step, steps_of}
 use Rattle.cif_reader.specs.declared.file.Item.{Item}
@@ -24,9 +24,6 @@ nothing = record { calls = 0; weight = 0 }
 pub size_nothing : (symbols : List Symbol) → HasSize symbols [] nothing
 unfolding nothing
 size_nothing symbols = record { placed = λ steps depth. []; unfolds = λ steps depth. refl; calls = λ steps depth. search rules; weight = λ steps depth. search rules }
-
-some_is : (m n : ℕ) → Some m ≡ Some n → m ≡ n
-some_is m n h = cc
 
 capped_sum : (m x y a b r : ℕ) → a ≡ min x m → b ≡ min y m → r ≡ min (a + b) m → r ≡ min (x + y) m
 capped_sum m x y a b r f g h = omega (arith, f, g, h)
@@ -79,7 +76,7 @@ size_alone symbols item r none m n f g = alone_case symbols item.pos item.what r
 calling_case : (symbols : List Symbol) (pos : ℕ) (what : What) (number : ℕ) (own a r : Size) → called_by what ≡ Some number → own.calls ≡ call_count what → own.weight ≡ weight what → HasSize symbols (items_of symbols number) a
     → r.calls ≡ capped (own.calls + a.calls) → r.weight ≡ capped (own.weight + a.weight) → HasSize symbols (record { pos = pos; what = what } ∷ []) r
 calling_case symbols pos (Draw layer shape) number own a r is f g h k e = absurd (none-some _ is)
-calling_case symbols pos (Call called place) number own a r is f g h k e = size_calling symbols pos called place own a r f g (subst (λ n. HasSize symbols (items_of symbols n) a) (sym (some_is _ _ is)) h) k e
+calling_case symbols pos (Call called place) number own a r is f g h k e = size_calling symbols pos called place own a r f g (subst (λ n. HasSize symbols (items_of symbols n) a) (sym (same_Some _ _ is)) h) k e
 calling_case symbols pos (Mark name at layer) number own a r is f g h k e = absurd (none-some _ is)
 
 -- The size of a call.

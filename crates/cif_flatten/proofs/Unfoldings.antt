@@ -1,10 +1,9 @@
 -- Unfoldings, joined and taken apart.
 use Rattle.std.proofs.Common.{◌≡◌, List, [], ◌∷◌, ◌++◌, refl, sym, ap, ◌∙◌, subst, append_assoc}
 use Rattle.cif_reader.specs.declared.file.Symbol.{Symbol}
-use Rattle.cif_flatten.specs.Unfolding.{Placed, opened, Unfolds}
-
-cons_not_nil : (x : Placed) (xs : List Placed) → x ∷ xs ≡ [] → ⊥
-cons_not_nil x xs h = cc
+use Rattle.cif_reader.specs.File.{Contents}
+use Rattle.cif_flatten.specs.Unfolding.{Placed, in_place, opened, Unfolds, IsUnfolding}
+use Rattle.cif_flatten.proofs.Cases.{cons_not_nil}
 
 pub unfolds_append : (symbols : List Symbol) (xs ys p q : List Placed) → Unfolds symbols xs p → Unfolds symbols ys q → Unfolds symbols (xs ++ ys) (p ++ q)
 unfolds_append symbols xs ys [] q h k = subst (λ r. Unfolds symbols (r ++ ys) q) (sym h) k
@@ -38,3 +37,6 @@ one_unfolding symbols [] (c ∷ p) q h k = absurd h
 one_unfolding symbols (d ∷ xs) (c ∷ p) [] h k = absurd (cons_not_nil _ _ k)
 one_unfolding symbols (d ∷ xs) (c ∷ p) (e ∷ q) h k =
     ap (λ x. x ∷ p) (h.0 ∙ sym k.0) ∙ ap (λ r. e ∷ r) (one_unfolding symbols (opened symbols d ++ xs) p q h.1 k.1)
+
+pub one_of_file : (file : Contents) (p q : List Placed) → IsUnfolding file p → IsUnfolding file q → p ≡ q
+one_of_file file p q h k = one_unfolding file.symbols (in_place [] 0 file.top) p q h k

@@ -14,6 +14,7 @@ use Rattle.cif_reader.specs.File.{Contents}
 use Rattle.cif_flatten.specs.declared.unfolding.Command.{Command}
 use Rattle.cif_flatten.specs.Unfolding.{Placed, in_place, items_of, opened, opened_by, Unfolds, IsUnfolding, call_count, calls_among}
 use Rattle.cif_flatten.specs.Unrolling.{placed_of, waiting, IsAlike, AreAlike, IsUnrolled, Unrolling, count_within}
+use Rattle.cif_flatten.proofs.Cases.{cons_not_nil}
 
 -- ---- the stack
 
@@ -78,9 +79,6 @@ pub record Likewise (symbols : List Symbol) (commands placed : List Placed) : Ty
   pub other : List Placed
   pub unfolds : Unfolds symbols commands other
   pub alike : AreAlike placed other
-
-cons_not_nil : (x : Placed) (xs : List Placed) → x ∷ xs ≡ [] → ⊥
-cons_not_nil x xs h = cc
 
 likewise_more : (symbols : List Symbol) (c x y : Placed) (ys p : List Placed) → c ≡ x → IsAlike x y → Likewise symbols (opened symbols y ++ ys) p → Likewise symbols (y ∷ ys) (c ∷ p)
 likewise_more symbols c x y ys p e h r = record { other = y ∷ r.other; unfolds = (refl, r.unfolds); alike = (subst (λ z. IsAlike z y) (sym e) h, r.alike) }

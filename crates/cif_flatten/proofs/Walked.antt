@@ -1,6 +1,6 @@
 -- The steps of the unfolding, and what they keep.
 use Rattle.std.proofs.Common.{◌≡◌, ℕ, get_or, ◌+◌, ◌*◌, ◌^◌, ◌<◌, ◌≤◌, length, map, Bool, true, false, cond, List, [], ◌∷◌, ◌++◌, refl, sym, ap, ◌∙◌, subst, arith, Bor, Fits, w32}
-use Rattle.std.specs.Prelude.{◌==◌, Option, Some, None, Result, Ok, Err, OnOk, find, ℤ, pos, ◌+ℤ◌, option_copied}
+use Rattle.std.specs.Prelude.{◌==◌, Option, Some, None, find, ℤ, pos, ◌+ℤ◌, option_copied}
 use Rattle.std.specs.List.{All, AllByRecursion}
 use Rattle.std.proofs.lemmas.Int.{ints}
 use Rattle.std.proofs.lemmas.List.{append-nil, map-append}
@@ -16,7 +16,7 @@ use Rattle.cif_reader.specs.declared.file.Item.{Item}
 use Rattle.cif_reader.specs.declared.file.Symbol.{Symbol}
 use Rattle.cif_reader.specs.declared.file.What.{What}
 use Rattle.cif_reader.specs.declared.file.What.TheVariants.{Draw, Call, Mark}
-use Rattle.cif_reader.specs.File.{Contents, has_number, IsKept, AreKept, AreAllKept, IsFile}
+use Rattle.cif_reader.specs.File.{Contents, has_number, IsKeptWhat, AreKeptItems, AreKeptSymbols, IsFile}
 use Rattle.cif_flatten.specs.declared.sizes.Size.{Size}
 use Rattle.cif_flatten.specs.declared.unfolding.Command.{Command}
 use Rattle.cif_flatten.specs.Unfolding.{Placed, in_place, items_in, items_of, opened, opened_by, Unfolds, call_count, figure_weight, weight, calls_among, weight_among, capped}
@@ -24,6 +24,7 @@ use Rattle.cif_flatten.specs.Faults.{most_calls, most_weight}
 use Rattle.cif_flatten.specs.FileSize.{IsFileSize}
 use Rattle.cif_flatten.specs.Unrolling.{placed_of, waiting, AreAlike, IsUnrolled, Walking, IsNear, IsShallow, AreShallow, IsPlaceable, count_within}
 use Rattle.cif_flatten.proofs.Ranges.{callable}
+use Rattle.cif_flatten.proofs.Cases.{cons_not_nil}
 use Rattle.cif_flatten.proofs.Unrolled.{waiting_push, alike_from, alike_in_place, alike_append, alike_same, Likewise, likewise, calls_alike, length_alike, Unrolled, unroll, count_is, all_unrolled}
 
 -- ---- shifts and depths
@@ -46,7 +47,7 @@ deeper_is d = omega arith
 call_one : (what : What) (number : ℕ) (place : Place) → what ≡ Call number place → call_count what ≡ 1
 call_one what number place is = ap call_count is
 
-pub call_near : (what : What) (number : ℕ) (place : Place) → what ≡ Call number place → IsKept what → IsShiftWithin (2 ^ 60) place
+pub call_near : (what : What) (number : ℕ) (place : Place) → what ≡ Call number place → IsKeptWhat what → IsShiftWithin (2 ^ 60) place
 call_near what number place is h = near_bound limit (2 ^ 60) place limit_near (callable what number place is h)
 
 pub deep_shift : (d n : ℕ) (place : Place) → d + n ≤ most_calls → IsShiftWithin (limit * d) place → IsShiftWithin (2 ^ 60) place
@@ -67,22 +68,22 @@ placeable left c h = record { kept = h.near.kept; shift = deep_shift c.depth lef
 
 -- ---- what symbols keep
 
-pub kept_at : (items : List Item) (i : ℕ) (x : Item) → i < length items → x ≡ get_or items i x → AreKept items → IsKept x.what
-kept_at items i x inside is h = subst (λ (item : Item). IsKept item.what) (sym is) (All-from_recursion (λ (item : Item). IsKept item.what) items h i x inside)
+pub kept_at : (items : List Item) (i : ℕ) (x : Item) → i < length items → x ≡ get_or items i x → AreKeptItems items → IsKeptWhat x.what
+kept_at items i x inside is h = subst (λ (item : Item). IsKeptWhat item.what) (sym is) (All-from_recursion (λ (item : Item). IsKeptWhat item.what) items h i x inside)
 
-kept_case : (b : Bool) (s : Symbol) (r : Option Symbol) → AreKept s.items.items → AreKept (items_in r) → AreKept (items_in (cond b (Some s) r))
+kept_case : (b : Bool) (s : Symbol) (r : Option Symbol) → AreKeptItems s.items.items → AreKeptItems (items_in r) → AreKeptItems (items_in (cond b (Some s) r))
 kept_case true s r h k = h
 kept_case false s r h k = k
 
-found_kept : (n : ℕ) (symbols : List Symbol) → AreAllKept symbols → AreKept (items_of symbols n)
+found_kept : (n : ℕ) (symbols : List Symbol) → AreKeptSymbols symbols → AreKeptItems (items_of symbols n)
 found_kept n [] h = tt
 found_kept n (s ∷ symbols) h = kept_case (n == s.number) s (find (has_number n) symbols) h.0 (found_kept n symbols h.1)
 
 items_are : (n : ℕ) (symbols : List Symbol) (r : Option (Bor Symbol)) (b : Bor Symbol) → option_copied r ≡ find (has_number n) symbols → r ≡ Some b → items_of symbols n ≡ b.now.items.items
 items_are n symbols r b e is = ap items_in (sym e ∙ ap option_copied is)
 
-pub symbol_kept : (n : ℕ) (symbols : List Symbol) (r : Option (Bor Symbol)) (b : Bor Symbol) (items : List Item) → option_copied r ≡ find (has_number n) symbols → r ≡ Some b → items ≡ b.now.items.items → AreAllKept symbols → AreKept items
-symbol_kept n symbols r b items e is same h = subst AreKept (items_are n symbols r b e is ∙ sym same) (found_kept n symbols h)
+pub symbol_kept : (n : ℕ) (symbols : List Symbol) (r : Option (Bor Symbol)) (b : Bor Symbol) (items : List Item) → option_copied r ≡ find (has_number n) symbols → r ≡ Some b → items ≡ b.now.items.items → AreKeptSymbols symbols → AreKeptItems items
+symbol_kept n symbols r b items e is same h = subst AreKeptItems (items_are n symbols r b e is ∙ sym same) (found_kept n symbols h)
 
 -- ---- what a command opens
 
@@ -109,10 +110,6 @@ call_opened symbols c number place made items r b ys zs is e found same moves wh
     (subst (λ xs. AreAlike (in_place (steps_of place ++ steps_of c.place) (c.depth + 1) xs ++ ys) zs) (same ∙ sym (items_are number symbols r b e found))
     (subst (AreAlike (in_place (steps_of place ++ steps_of c.place) (c.depth + 1) items ++ ys)) (sym whole)
     (alike_append _ _ ys ys (alike_in_place (steps_of place ++ steps_of c.place) (steps_of made) (c.depth + 1) items (then_moves place made c.place moves)) (alike_same ys))))
-
-pub on_ok : {T E P Q : Type 0} (r : Result T E) → (P → Q) → OnOk r P → OnOk r Q
-on_ok (Ok x) f h = f h
-on_ok (Err e) f h = h
 
 pub call_shallow : (what : What) (number : ℕ) (place : Place) (d : ℕ) (old now : List Command) → what ≡ Call number place → ((left : ℕ) → d + 1 + left ≤ most_calls → AreShallow left old → AreShallow left now)
     → (left : ℕ) → d + left + call_count what ≤ most_calls → AreShallow left old → AreShallow left now
@@ -161,9 +158,6 @@ last_near file fuel commands before pending c w is = (popped_shallow (calls_amon
 
 first_calls : (symbols : List Symbol) (c d : Placed) (rest commands : List Placed) → Unfolds symbols (d ∷ commands) rest → call_count d.item.what ≤ calls_among rest
 first_calls symbols c d [] commands u = absurd (cons_not_nil _ _ u)
-  where
-    cons_not_nil : (x : Placed) (xs : List Placed) → x ∷ xs ≡ [] → ⊥
-    cons_not_nil x xs h = cc
 first_calls symbols c d (e ∷ rest) commands u = omega (arith, ap (λ (x : Placed). call_count x.item.what) u.0, sum_by-cons (λ (c : Placed). call_count c.item.what) e rest)
 
 pub last_few : (file : Contents) (fuel : ℕ) (commands before pending : List Command) (c : Command) → Walking file fuel commands before → before ≡ pending ++ c ∷ [] → c.depth + call_count c.item.now.what ≤ most_calls
@@ -181,19 +175,19 @@ some_weight (block r) h = omega arith
 some_weight (polygon points) h = omega (arith, h.some)
 some_weight (wire half path) h = omega (arith, h.some)
 
-weighs : (what : What) → IsKept what → 1 ≤ call_count what + weight what
+weighs : (what : What) → IsKeptWhat what → 1 ≤ call_count what + weight what
 weighs (Draw layer shape) h = omega (arith, some_weight (figure_of shape) h.formed)
 weighs (Call number place) h = omega arith
 weighs (Mark name at layer) h = omega arith
 
 abbrev PlacedKept : Placed → Type 0
-PlacedKept c = IsKept c.item.what
+PlacedKept c = IsKeptWhat c.item.what
 
-in_place_kept : (steps : List Step) (depth : ℕ) (items : List Item) → AreKept items → AllByRecursion PlacedKept (in_place steps depth items)
+in_place_kept : (steps : List Step) (depth : ℕ) (items : List Item) → AreKeptItems items → AllByRecursion PlacedKept (in_place steps depth items)
 in_place_kept steps depth [] h = tt
 in_place_kept steps depth (item ∷ items) h = (h.0, in_place_kept steps depth items h.1)
 
-opened_kept : (symbols : List Symbol) (what : What) (steps : List Step) (depth : ℕ) → AreAllKept symbols → AllByRecursion PlacedKept (opened_by symbols steps depth what)
+opened_kept : (symbols : List Symbol) (what : What) (steps : List Step) (depth : ℕ) → AreKeptSymbols symbols → AllByRecursion PlacedKept (opened_by symbols steps depth what)
 opened_kept symbols (Draw layer shape) steps depth h = tt
 opened_kept symbols (Call number place) steps depth h = in_place_kept (steps_of place ++ steps) (depth + 1) (items_of symbols number) (found_kept number symbols h)
 opened_kept symbols (Mark name at layer) steps depth h = tt
@@ -205,7 +199,7 @@ kept_append (x ∷ xs) ys h k = (h.0, kept_append xs ys h.1 k)
 more_weight : (c : Placed) (p : List Placed) → 1 ≤ call_count c.item.what + weight c.item.what → length p ≤ calls_among p + weight_among p → length (c ∷ p) ≤ calls_among (c ∷ p) + weight_among (c ∷ p)
 more_weight c p h k = omega (arith, h, k, sum_by-cons (λ (c : Placed). call_count c.item.what) c p, sum_by-cons (λ (c : Placed). weight c.item.what) c p)
 
-all_weigh : (symbols : List Symbol) (xs p : List Placed) → AreAllKept symbols → AllByRecursion PlacedKept xs → Unfolds symbols xs p → length p ≤ calls_among p + weight_among p
+all_weigh : (symbols : List Symbol) (xs p : List Placed) → AreKeptSymbols symbols → AllByRecursion PlacedKept xs → Unfolds symbols xs p → length p ≤ calls_among p + weight_among p
 all_weigh symbols xs [] s h u = omega arith
 all_weigh symbols [] (c ∷ p) s h u = absurd u
 all_weigh symbols (d ∷ xs) (c ∷ p) s h u = more_weight c p (weighs c.item.what (subst PlacedKept (sym u.0) h.0)) (all_weigh symbols (opened symbols d ++ xs) p s (kept_append (opened symbols d) xs (opened_kept symbols d.item.what d.steps d.depth s) h.1) u.1)

@@ -123,29 +123,29 @@ corners (polygon points) = points
 corners (wire half path) = flat_map (λ s. rect_corners (widened half s)) (segments path)
 
 -- a position, and the points that stand there
-pub record Reaching : Type 0 where
+pub record PlacedPoints : Type 0 where
   pub pos : ℕ
   pub points : List Point
 
 -- the corners of all placed shapes, and the points of all placed labels
-abbrev pub reaching : List Placed → List Reaching
+abbrev pub reaching : List Placed → List PlacedPoints
 reaching placed =
     map (λ (d : Drawn). record { pos = d.pos; points = corners d.figure }) (drawn placed)
     ++ map (λ (m : Marked). record { pos = m.pos; points = m.at ∷ [] }) (marked placed)
 
--- All points are within 16,777,216.
-abbrev pub IsInRange : Reaching → Type 0
+-- All points are within 2^24.
+abbrev pub IsInRange : PlacedPoints → Type 0
 IsInRange r = All (IsPointWithin (2 ^ 24)) r.points
 
 -- A placed shape or label of that position reaches out of the range, and none with a lesser position does.
 pub record IsOutOfRange (file : Contents) (pos : ℕ) : Type 0 where
   pub placed : List Placed
   pub unfolded : IsUnfolding file placed
-  pub reach : Reaching
+  pub reach : PlacedPoints
   pub one : Contains (reaching placed) reach
   pub at : reach.pos ≡ pos
   pub out : IsInRange reach → ⊥
-  pub least : All (λ (r : Reaching). (IsInRange r → ⊥) → pos ≤ r.pos) (reaching placed)
+  pub least : All (λ (r : PlacedPoints). (IsInRange r → ⊥) → pos ≤ r.pos) (reaching placed)
 
 -- ---- how fine it is
 

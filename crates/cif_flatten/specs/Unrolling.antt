@@ -9,7 +9,7 @@ use Rattle.cif_grammar.specs.Words.{limit}
 use Rattle.cif_reader.specs.declared.file.Symbol.{Symbol}
 use Rattle.cif_reader.specs.declared.file.What.{What}
 use Rattle.cif_reader.specs.declared.file.What.TheVariants.{Draw, Call, Mark}
-use Rattle.cif_reader.specs.File.{Contents, IsKept}
+use Rattle.cif_reader.specs.File.{Contents, IsKeptWhat}
 use Rattle.cif_flatten.specs.declared.unfolding.Command.{Command}
 use Rattle.cif_flatten.specs.declared.flat.Draw.{Draw as Draw'}
 use Rattle.cif_flatten.specs.Unfolding.{Placed, opened, Unfolds, IsUnfolding, calls_among}
@@ -57,7 +57,7 @@ count_within (suc n) symbols (c ∷ commands) = count_within n symbols (opened s
 
 -- The command is one of a file, and its shift is that of so many calls as it stands in.
 pub record IsNear (command : Command) : Type 0 where
-  pub kept : IsKept command.item.now.what
+  pub kept : IsKeptWhat command.item.now.what
   pub shift : IsShiftWithin (limit * command.depth) command.place
 
 -- It stands in so few calls that so many may follow.
@@ -70,7 +70,7 @@ AreShallow left commands = All (IsShallow left) commands
 
 -- It can be placed.
 pub record IsPlaceable (command : Command) : Type 0 where
-  pub kept : IsKept command.item.now.what
+  pub kept : IsKeptWhat command.item.now.what
   pub shift : IsShiftWithin (2 ^ 60) command.place
 
 -- Some commands were unfolded, and those that wait stand in so few calls that all that they unfold to may follow.

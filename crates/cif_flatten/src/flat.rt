@@ -30,7 +30,7 @@ pub struct Mark {
 }
 
 /// A layout without calls: its placed shapes and labels in the order in which the calls are unfolded. Each shape is well
-/// formed, and its reach and each label's point are within ±16,777,216.
+/// formed, and its reach and each label's point are within `plane_geom::RANGE` of 0.
 #[derive(Debug, Drop)]
 pub struct Flat {
     draws: Vec<Draw>,
@@ -49,7 +49,8 @@ impl Model for Flat {
 }
 
 impl Flat {
-    /// The layout of these placed shapes and labels.
+    /// The layout of these placed shapes and labels. Each shape is to be well formed, and its reach and each label's
+    /// point within `plane_geom::RANGE` of 0.
     pub fn new(draws: Vec<Draw>, marks: Vec<Mark>) -> Flat
         requires draws_within { All (λ d. IsShapeWithin (2 ^ 24) d.shape) draws.items }
         requires marks_within { All (λ m. IsPointWithin (2 ^ 24) m.at) marks.items }

@@ -14,11 +14,8 @@ ghost use Rattle.cif_flatten.specs.Unrolling.{placed_of, IsPlaceable, IsIn, IsLe
 use crate::flat::{Draw, Mark};
 use crate::unfolding::Command;
 use cif_reader::What;
-use plane_geom::{Label, Place, Point, Rect, Shape};
+use plane_geom::{Label, Place, Point, RANGE, Rect, Shape};
 use std::alloc::{AllocError, Global};
-
-/// The greatest distance of a corner from 0, in mask units.
-const RANGE: i64 = 16_777_216;
 
 /// The least position of a command that reaches out of the range, if one does.
 pub(crate) fn least_out(commands: &[Command<'_>]) -> Option<u64>

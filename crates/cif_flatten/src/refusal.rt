@@ -14,12 +14,13 @@ pub enum FlattenRefusal {
     TooManyCalls,
     /// The placed shapes and labels weigh over 32,768: a box or a label weighs 1, a polygon or a wire 1 a point.
     TooManyEdges,
-    /// A placed shape or label of the command here reaches over 16,777,216 mask units from 0, and none of an earlier
+    /// A placed shape or label of the command here reaches over `plane_geom::RANGE` mask units from 0, and none of an earlier
     /// command does.
     OutOfRange(u64),
     /// The corners of the placed shapes have so many different x and different y that the numbers of both, multiplied,
     /// are over 4,194,304.
     TooFine,
+    /// Memory ran out before the answer was known. It can come in place of any other answer.
     NoMemory,
 }
 

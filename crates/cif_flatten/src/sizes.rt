@@ -54,8 +54,10 @@ impl Size {
     }
 }
 
-/// How much the file unfolds to from its top, in time linear in the file. It is `None` where a symbol calls itself,
-/// perhaps through others, called or not. A symbol that is not defined has no items.
+/// How many calls the file unfolds to from its top, and how much its placed shapes and labels weigh: by the definition
+/// `IsFileSize`, where each number stops at the greatest `u64`. It is `None` exactly where a symbol calls itself, perhaps
+/// through others, called or not. A symbol that is not defined has no items. The time is linear in the file, and the
+/// only error is want of memory.
 pub fn unfolded_size(alloc: Global, file: &CifFile) -> Result<Option<Size>, AllocError>
     ensures size { IfOk result (λ found. IfSome found (λ size. IsFileSize file.now size)) }
     ensures nested { IfOk result (λ found. IfSome found (λ size. IsNested file.now.symbols)) }

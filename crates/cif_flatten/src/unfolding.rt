@@ -4,7 +4,7 @@ ghost use Rattle.std.specs.Prelude.{◌≡◌, ℕ, ◌+◌, ◌*◌, ◌≤◌,
 ghost use Rattle.std.specs.List.{All};
 ghost use Rattle.plane_geom.specs.Placement.{steps_of, IsShiftWithin};
 ghost use Rattle.cif_grammar.specs.Words.{limit};
-ghost use Rattle.cif_reader.specs.File.{IsFile, AreKept};
+ghost use Rattle.cif_reader.specs.File.{IsFile, AreKeptItems};
 ghost use Rattle.cif_flatten.specs.Unfolding.{in_place, opened, call_count};
 ghost use Rattle.cif_flatten.specs.Faults.{most_calls, most_weight};
 ghost use Rattle.cif_flatten.specs.FileSize.{IsFileSize};
@@ -90,7 +90,7 @@ fn push_all<'a>(
     place: Place,
     depth: u32,
 ) -> Result<(), AllocError>
-    requires kept { AreKept items.now }
+    requires kept { AreKeptItems items.now }
     requires shift { IsShiftWithin (limit * depth) place }
     ensures waiting { OnOk result (waiting pending.new.items ≡ in_place (steps_of place) depth items.now ++ waiting pending.old.items) }
     ensures shallow { OnOk result ((left : ℕ) → depth + left ≤ most_calls → AreShallow left pending.old.items → AreShallow left pending.new.items) }

@@ -2,7 +2,8 @@ use Rattle.std.proofs.Common.{map, arith, ap, ◌∙◌}
 use Rattle.cif_flatten.specs.declared.refusal.FlattenRefusal.TheVariants.{TooManyCalls, TooManyEdges, OutOfRange, TooFine}
 use Rattle.cif_flatten.specs.Flattening.{drawn_of}
 use Rattle.cif_flatten.specs.Unrolling.{placed_of}
-use Rattle.cif_flatten.proofs.Judged.{passes, all_pass, not_before, refuse, none_undefined, nested_of, many_calls, much_weight, few_is, light_is, not_many, not_much, not_out, out_of_range, unrolled_as, least_some, least_none, fine, not_fine, flattened, inside_from, not_true}
+use Rattle.cif_flatten.proofs.Cases.{not_true}
+use Rattle.cif_flatten.proofs.Judged.{passes, all_pass, not_before, refuse, none_undefined, nested_of, many_calls, much_weight, few_is, light_is, not_many, not_much, not_out, out_of_range, unrolled_as, least_some, least_none, fine, not_fine, flattened, inside_from}
 use Rattle.cif_flatten.proofs.flattening.flatten.Goals as goal
 
 pub returns-then-size-gt-MOST_CALLS-clause-refused : goal.returns-then-size-gt-MOST_CALLS-clause-refused

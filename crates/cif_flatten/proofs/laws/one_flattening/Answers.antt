@@ -1,4 +1,5 @@
-use Rattle.cif_flatten.proofs.OneAnswer.{one_of_file, one_layout, never_both, one_fault}
+use Rattle.cif_flatten.proofs.Unfoldings.{one_of_file}
+use Rattle.cif_flatten.proofs.OneAnswer.{one_layout, never_both, one_fault}
 use Rattle.cif_flatten.proofs.SameFiles.{same_file, first_fault_same}
 use Rattle.cif_flatten.proofs.laws.one_flattening.Goals as goal
 

@@ -1,6 +1,7 @@
 use Rattle.std.proofs.Common.{◌+◌, subst, sym, take, map}
 use Rattle.cif_flatten.specs.Unrolling.{placed_of, IsIn, IsLeastOut}
-use Rattle.cif_flatten.proofs.Ranges.{out_more, same_more, out_all, not_in}
+use Rattle.cif_flatten.proofs.Cases.{not_true}
+use Rattle.cif_flatten.proofs.Ranges.{out_more, same_more, out_all}
 use Rattle.cif_flatten.proofs.placing.least_out.Goals as goal
 use Rattle.cif_flatten.proofs.placing.least_out.Goals.{then-not-is_in_range, else-not-is_in_range}
 
@@ -12,7 +13,7 @@ loop-command-preserved c =
     elim c.if-not-is_in_range.branch [
       | then-not-is_in_range w ↦ subst (IsLeastOut (map placed_of (take (i + 1) commands))) (sym w.least-is)
           (out_more commands i x c.loop-command.least w.lesser.result c.loop-command-test.true c.command-item.is c.loop-command.invariant
-          (not_in c.is_in_range.result (IsIn (placed_of x)) w.if-not-is_in_range.true c.is_in_range.ensures) w.lesser.ensures)
+          (not_true {A = IsIn (placed_of x)} c.is_in_range.result w.if-not-is_in_range.true c.is_in_range.ensures) w.lesser.ensures)
       | else-not-is_in_range w ↦ subst (IsLeastOut (map placed_of (take (i + 1) commands))) (sym w.least-is)
           (same_more commands i x c.loop-command.least c.loop-command-test.true c.command-item.is c.loop-command.invariant (c.is_in_range.ensures.0 w.if-not-is_in_range.false))
     ]

@@ -1,5 +1,6 @@
 use Rattle.cif_flatten.specs.Unrolling.{placed_of, waiting}
-use Rattle.cif_flatten.proofs.Walked.{call_near, deep_shift, deeper_shift, depth_fits, symbol_kept, none_opened, undefined_opened, call_opened, on_ok, call_shallow}
+use Rattle.cif_reader.proofs.Closing.{on_ok}
+use Rattle.cif_flatten.proofs.Walked.{call_near, deep_shift, deeper_shift, depth_fits, symbol_kept, none_opened, undefined_opened, call_opened, call_shallow}
 use Rattle.cif_flatten.proofs.Ranges.{callable}
 use Rattle.cif_flatten.proofs.unfolding.push_called.Goals as goal
 

@@ -23,13 +23,13 @@ use Rattle.clause_base.specs.Formulas.{Clauses}
 use Rattle.clause_base.specs.FormulaText.{SpellsFormula}
 use Rattle.clause_base.specs.FormulaFaults.{IsFormulaFault}
 use Rattle.solve_report.specs.declared.ending.Ending.{Ending}
-use Rattle.solve_report.specs.Report.{IsReport as IsSolveReport}
+use Rattle.solve_report.specs.Report.{IsSolveReport}
 use Rattle.carafe_core.specs.declared.status.Which.{Which}
 use Rattle.carafe_core.specs.declared.status.Which.TheVariants.{Map, Cif, Formula}
 use Rattle.carafe_core.specs.declared.status.Refusal.{Refusal}
 use Rattle.carafe_core.specs.declared.status.Refusal.TheVariants.{Words, Map as OfMap, Cif as OfCif, Layout as OfLayout, Sweep as OfSweep, Formula as OfFormula}
 use Rattle.carafe_core.specs.Settings.{BridgesSettings, SolveSettings, ForBridges, ForSolve, IsWordCause}
-use Rattle.carafe_core.specs.Report.{IsReport}
+use Rattle.carafe_core.specs.Report.{IsBridgesReport}
 
 -- the most bytes of a file
 unfoldable pub longest : Which → ℕ
@@ -156,7 +156,7 @@ pub record IsBridgesReportOn (files : Option (List File)) (settings : BridgesSet
   pub plan : Plan
   pub named : NamedNets
   pub nets : HasNets files settings plan named
-  pub report : IsReport settings.sides plan named text
+  pub report : IsBridgesReport settings.sides plan named text
 
 -- the text is the report that the words of a `bridges` call ask for
 abbrev pub IsBridgesReportOf : List (List ℕ) → Option (List File) → List ℕ → Type 0

@@ -79,7 +79,7 @@ pub record IsRanking (nets : Nets) (sides : List SideWeight) (ranked : List Coun
   pub ranks : IsRanked counts ranked
 
 -- The text is the report on the layout with these named nets under the map, for defects of these sides.
-pub record IsReport (sides : List SideWeight) (plan : Plan) (named : NamedNets) (text : List ℕ) : Type 0 where
+pub record IsBridgesReport (sides : List SideWeight) (plan : Plan) (named : NamedNets) (text : List ℕ) : Type 0 where
   pub ranked : List Count
   pub ranking : IsRanking named.nets sides ranked
   pub whole : text ≡ report_text sides (wire_names plan) named.names (tallies_of named) ranked

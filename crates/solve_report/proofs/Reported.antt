@@ -8,7 +8,7 @@ use Rattle.conflict_solver.specs.declared.verdict.Verdict.{Verdict}
 use Rattle.conflict_solver.specs.declared.verdict.Verdict.TheVariants.{Values, Refuted, Undecided}
 use Rattle.conflict_solver.specs.Answering.{IsVerdict}
 use Rattle.solve_report.specs.declared.ending.Ending.{Ending}
-use Rattle.solve_report.specs.Report.{header, verdict_line, ending_of, SolvesWhereValues, IsSortedForm, IsReport, WritesReport, AppendsReportFront}
+use Rattle.solve_report.specs.Report.{header, verdict_line, ending_of, SolvesWhereValues, IsSortedForm, IsSolveReport, WritesReport, AppendsReportFront}
 use Rattle.solve_report.specs.Printing.{WritesProof, WritesProofFront}
 use Rattle.solve_report.proofs.Sorted.{solves_file}
 
@@ -18,7 +18,7 @@ solved file formula budget lines Refuted sorted holds = tt
 solved file formula budget lines Undecided sorted holds = tt
 
 is_report : (file formula : Clauses) (budget : ℕ) (verdict : Verdict) {old new : Option (List ℕ)} (sorted : IsSortedForm file formula) (proof : WritesProof formula budget verdict old new)
-    → IsReport file budget (ending_of verdict) (header budget formula ++ (text_of proof.said ++ verdict_line verdict))
+    → IsSolveReport file budget (ending_of verdict) (header budget formula ++ (text_of proof.said ++ verdict_line verdict))
 is_report file formula budget verdict sorted proof = record {
   formula = formula;
   sorted = sorted;

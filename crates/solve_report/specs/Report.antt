@@ -72,7 +72,7 @@ SolvesWhereValues formula Undecided = Unit {0}
 
 -- The text is a report on a search over the file's formula: its sorted form, the lines that answer that with a verdict, and
 -- the verdict. Values solve the file's own formula.
-pub record IsReport (file : Clauses) (budget : ℕ) (ending : Ending) (text : List ℕ) : Type 0 where
+pub record IsSolveReport (file : Clauses) (budget : ℕ) (ending : Ending) (text : List ℕ) : Type 0 where
   pub formula : Clauses
   pub sorted : IsSortedForm file formula
   pub said : List Said
@@ -92,14 +92,14 @@ pub record IsReportSoFar (file : Clauses) (budget : ℕ) (text : List ℕ) : Typ
 
 -- the text is a report, or one so far
 abbrev pub IsReportOrSoFar : Clauses → ℕ → List ℕ → Type 0
-IsReportOrSoFar file budget text = IsReportSoFar file budget text ⊎ ((ending : Ending) × IsReport file budget ending text)
+IsReportOrSoFar file budget text = IsReportSoFar file budget text ⊎ ((ending : Ending) × IsSolveReport file budget ending text)
 
 -- ---- what a call writes
 
 -- a report was appended
 pub record WritesReport (file : Clauses) (budget : ℕ) (ending : Ending) (old new : Option (List ℕ)) : Type 0 where
   pub text : List ℕ
-  pub report : IsReport file budget ending text
+  pub report : IsSolveReport file budget ending text
   pub written : Appends old new text
 
 -- a front of a report, or of one so far, was appended

@@ -3,7 +3,7 @@ use Rattle.std.proofs.Common.{◌≡◌, ◌≢◌, ℕ, ◌<◌, ◌≤◌, ◌
 use Rattle.std.proofs.lemmas.Bool.{cases_eq, cases_lt}
 use Rattle.std.proofs.lemmas.List.{get_or-set_same, get_or-set_other, length-set}
 use Rattle.link_classes.specs.Linked.{Linked}
-use Rattle.link_classes.specs.Forest.{IsForest, IsOnTrees, IsLinkedForest, IsCoarser, HasClimbed, AreJoined}
+use Rattle.link_classes.specs.Forest.{IsForest, IsOnTrees, IsLinkedForest, IsCoarser, HasClimbed, AreJoinedTrees}
 use Rattle.link_classes.proofs.Chains.{linked_refl, linked_sym, linked_trans}
 
 by_eq : {P : Type 0} (a b : ℕ) → (a ≡ b → P) → (a ≢ b → P) → P
@@ -117,7 +117,7 @@ join_same xs low high inside value on = ap value (sym (set_here xs high high low
 
 joined_in_order : (old mid new : List ℕ) (a b first second low high : ℕ) → a < length old → b < length old
     → HasClimbed old mid a first → slice_index mid first ≡ first → HasClimbed mid new b second → slice_index new second ≡ second
-    → ((low ≡ first) × (high ≡ second)) ⊎ ((low ≡ second) × (high ≡ first)) → low ≤ high → AreJoined old (slice_set new high low) a b
+    → ((low ≡ first) × (high ≡ second)) ⊎ ((low ≡ second) × (high ≡ first)) → low ≤ high → AreJoinedTrees old (slice_set new high low) a b
 joined_in_order old mid new a b first second low high a_in b_in one root two root' which below = record {
   forest = moved_forest (length old) new high low forest high_in below;
   trees = record { trees = λ value on. one.trees.trees value (two.trees.trees value (joined.trees value on)) };
@@ -173,6 +173,6 @@ in_order low high first second is_low is_high = elim (cases_lt first second) [
 -- the greater of two roots is hung under the lesser
 pub joined : (old mid new : List ℕ) (a b first second low high : ℕ) → a < length old → b < length old
     → HasClimbed old mid a first → slice_index mid first ≡ first → HasClimbed mid new b second → slice_index new second ≡ second
-    → low ≡ min first second → high ≡ max first second → AreJoined old (slice_set new high low) a b
+    → low ≡ min first second → high ≡ max first second → AreJoinedTrees old (slice_set new high low) a b
 joined old mid new a b first second low high a_in b_in one root two root' is_low is_high =
     joined_in_order old mid new a b first second low high a_in b_in one root two root' (in_order low high first second is_low is_high) (omega (arith, is_low, is_high))

@@ -3,7 +3,7 @@ use Rattle.std.proofs.Common.{◌≡◌, ℕ, ◌+◌, ◌<◌, ◌≤◌, List,
 use Rattle.std.proofs.lemmas.Bool.{cases_eq}
 use Rattle.std.proofs.lemmas.List.{get_or_push, get_or_append_left}
 use Rattle.link_classes.specs.Linked.{Linked}
-use Rattle.link_classes.specs.Forest.{IsForest, AreNumbered}
+use Rattle.link_classes.specs.Forest.{IsForest, AreNumberedTrees}
 use Rattle.link_classes.proofs.Chains.{linked_refl, linked_trans}
 
 push_size : (xs : List ℕ) (y : ℕ) → length (xs ++ y ∷ []) ≡ length xs + 1
@@ -19,7 +19,7 @@ last xs y j is = get_or_push xs y 0 j is
 by_place : {P : Type 0} (xs : List ℕ) (y j : ℕ) → j < length (xs ++ y ∷ []) → (j < length xs → P) → (length xs ≡ j → P) → P
 by_place xs y j lt old new = elim (cases_eq (length xs) j) [ inl e ↦ new e | inr n ↦ old (omega (arith, lt, push_size xs y, n)) ]
 
-pub numbered_none : (parents : List ℕ) → AreNumbered parents [] []
+pub numbered_none : (parents : List ℕ) → AreNumberedTrees parents [] []
 numbered_none parents = record {
   same = λ x lt. absurd (omega (arith, lt));
   below = λ x lt. absurd (omega (arith, lt));
@@ -30,11 +30,11 @@ numbered_none parents = record {
   rising = λ j k jk lt. absurd (omega (arith, lt));
 }
 
-module _ (parents label least : List ℕ) (x : ℕ) (forest : IsForest (length parents) parents) (here : length label ≡ x) (inside_ : x < length parents) (h : AreNumbered parents label least) where
+module _ (parents label least : List ℕ) (x : ℕ) (forest : IsForest (length parents) parents) (here : length label ≡ x) (inside_ : x < length parents) (h : AreNumberedTrees parents label least) where
   parent_before : (y j : ℕ) → j < length label → slice_index (label ++ y ∷ []) (slice_index parents j) ≡ slice_index (label ++ y ∷ []) j
   parent_before y j lt = before label y (slice_index parents j) (omega (arith, lt, forest.down j (omega (arith, lt, here, inside_)))) ∙ h.same j lt ∙ sym (before label y j lt)
 
-  pub numbered_root : slice_index parents x ≡ x → AreNumbered parents (label ++ length least ∷ []) (least ++ x ∷ [])
+  pub numbered_root : slice_index parents x ≡ x → AreNumberedTrees parents (label ++ length least ∷ []) (least ++ x ∷ [])
   numbered_root root = record {
     same = λ j lt. by_place label (length least) j lt (parent_before (length least) j)
         (λ new. ap (λ k. slice_index more k) (ap (λ k. slice_index parents k) (sym new ∙ here) ∙ root ∙ sym here ∙ new));
@@ -71,7 +71,7 @@ module _ (parents label least : List ℕ) (x : ℕ) (forest : IsForest (length p
     root_last : (j : ℕ) → length label ≡ j → slice_index roots (slice_index more j) ≡ j
     root_last j new = ap (λ n. slice_index roots n) (last label (length least) j new) ∙ last least x (length least) refl ∙ sym here ∙ new
 
-  pub numbered_more : slice_index parents x < x → AreNumbered parents (label ++ slice_index label (slice_index parents x) ∷ []) least
+  pub numbered_more : slice_index parents x < x → AreNumberedTrees parents (label ++ slice_index label (slice_index parents x) ∷ []) least
   numbered_more lower = record {
     same = λ j lt. by_place label value j lt (parent_before value j)
         (λ new. ap (λ k. slice_index more (slice_index parents k)) (sym new ∙ here) ∙ before label value (slice_index parents x) within ∙ sym (last label value j new));

@@ -4,7 +4,7 @@ use Rattle.std.specs.List.{All}
 use Rattle.std.proofs.lemmas.Bool.{and_parts, eqb-true, and_from, eq-eqb}
 use Rattle.std.proofs.lemmas.List.Folds.{Any-from_list_any, list_any_at}
 use Rattle.link_classes.specs.Classes.{has_pair, AreClasses}
-use Rattle.link_classes.specs.Forest.{IsForest, IsOnTrees, IsLinkedForest, AreNumbered}
+use Rattle.link_classes.specs.Forest.{IsForest, IsOnTrees, IsLinkedForest, AreNumberedTrees}
 
 same_of : (value : ℕ → ℕ) (p : ℕ × ℕ) (a b : ℕ) → value p.0 ≡ value p.1 → (p.0 == a && p.1 == b) ≡ true → value a ≡ value b
 same_of value p a b same pass =
@@ -19,7 +19,7 @@ pair_shared pairs value a b all has =
 
 pub classes_are : (size : ℕ) (parents : List ℕ) (pairs : List (ℕ × ℕ)) (label least : List ℕ) → IsForest size parents
     → ((value : ℕ → ℕ) → IsOnTrees parents value → All (λ p. value p.0 ≡ value p.1) pairs) → IsLinkedForest (has_pair pairs) parents
-    → length label ≡ length parents → AreNumbered parents label least → AreClasses size (has_pair pairs) label least
+    → length label ≡ length parents → AreNumberedTrees parents label least → AreClasses size (has_pair pairs) label least
 classes_are size parents pairs label least forest joined linked each h = record {
   each = sized;
   shared = λ a b has. pair_shared pairs (λ x. slice_index label x) a b (joined (λ x. slice_index label x) on) has;

@@ -30,14 +30,14 @@ pub record HasClimbed (old new : List ℕ) (x at : ℕ) : Type 0 where
   pub reached : (touch : ℕ → ℕ → Bool) → IsLinkedForest touch old → Linked touch at x
 
 -- The trees of two numbers are one, and no others were joined.
-pub record AreJoined (old new : List ℕ) (a b : ℕ) : Type 0 where
+pub record AreJoinedTrees (old new : List ℕ) (a b : ℕ) : Type 0 where
   pub forest : IsForest (length old) new
   pub trees : IsCoarser old new
   pub linked : (touch : ℕ → ℕ → Bool) → Linked touch a b → IsLinkedForest touch old → IsLinkedForest touch new
   pub same : (value : ℕ → ℕ) → IsOnTrees new value → value a ≡ value b
 
 -- the numbers of the trees so far, and the roots
-pub record AreNumbered (parents label least : List ℕ) : Type 0 where
+pub record AreNumberedTrees (parents label least : List ℕ) : Type 0 where
   pub same : (x : ℕ) → x < length label → slice_index label (slice_index parents x) ≡ slice_index label x
   pub below : (x : ℕ) → x < length label → slice_index label x < length least
   pub reached : (touch : ℕ → ℕ → Bool) → IsLinkedForest touch parents → (x : ℕ) → x < length label → Linked touch (slice_index least (slice_index label x)) x

@@ -1,7 +1,7 @@
 //! Trees of numbers that are joined: each number has a parent, and a root is its own.
 
 ghost use Rattle.std.specs.Prelude.{◌≡◌, ℕ, ◌<◌, ◌≤◌, Bool, IfOk, length, slice_index};
-ghost use Rattle.link_classes.specs.Forest.{IsForest, IsLinkedForest, HasClimbed, AreJoined};
+ghost use Rattle.link_classes.specs.Forest.{IsForest, IsLinkedForest, HasClimbed, AreJoinedTrees};
 
 use std::alloc::{AllocError, Global};
 
@@ -34,7 +34,7 @@ pub(crate) fn join(parents: &mut Vec<usize>, a: usize, b: usize)
     requires forest { IsForest (length parents.old.items) parents.old.items }
     requires a_inside { a < length parents.old.items }
     requires b_inside { b < length parents.old.items }
-    ensures { AreJoined parents.old.items parents.new.items a b }
+    ensures { AreJoinedTrees parents.old.items parents.new.items a b }
 {
     let first = root_of(parents, a);
     let second = root_of(parents, b);

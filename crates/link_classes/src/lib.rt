@@ -12,7 +12,7 @@ mod forest;
 mod laws;
 mod partition;
 
-pub use laws::one_numbering;
+pub use laws::{one_numbering, tables_number_classes};
 pub use partition::{Classes, classes_of};
 
 #[cfg(test)]

@@ -2,7 +2,7 @@
 
 ghost use Rattle.std.specs.Prelude.{◌≡◌, ℕ, ◌<◌, All, IfOk, length};
 ghost use Rattle.link_classes.specs.Classes.{has_pair, AreClasses};
-ghost use Rattle.link_classes.specs.Forest.{IsForest, AreNumbered};
+ghost use Rattle.link_classes.specs.Forest.{IsForest, AreNumberedTrees};
 
 use crate::forest::{join, singletons};
 use std::alloc::{AllocError, Global};
@@ -38,7 +38,7 @@ pub fn classes_of(
 fn numbered(alloc: Global, parents: &[usize]) -> Result<Classes, AllocError>
     requires { IsForest (length parents.now) parents.now }
     ensures each { IfOk result (λ found. length found.label.items ≡ length parents.now) }
-    ensures numbered { IfOk result (λ found. AreNumbered parents.now found.label.items found.least.items) }
+    ensures numbered { IfOk result (λ found. AreNumberedTrees parents.now found.label.items found.least.items) }
 {
     let mut label = Vec::new(alloc);
     let mut least = Vec::new(alloc);

@@ -1,6 +1,6 @@
 use Rattle.std.proofs.Common.{◌≡◌, ℕ, ◌<◌, ◌+◌, List, [], ◌∷◌, ◌++◌, length, length-append, sym, ap, ◌∙◌, arith, subst, slice_index}
 use Rattle.std.proofs.lemmas.Grind.{get_or_default_zero}
-use Rattle.link_classes.specs.Forest.{AreNumbered}
+use Rattle.link_classes.specs.Forest.{AreNumberedTrees}
 use Rattle.link_classes.proofs.Numbers.{numbered_root, numbered_more}
 use Rattle.link_classes.proofs.partition.numbered.Goals as goal
 use Rattle.link_classes.proofs.partition.numbered.Goals.{then-parent-x+in_ok-push+in_ok-push-2, else-parent-x+in_ok-push-3}
@@ -20,8 +20,8 @@ loop-x-preserved c =
           ap (λ v. v.items) w.least-is ∙ w.in_ok-push-2.ensures.items in
           record {
             each = one_more _ _ _ _ label h.each;
-            numbered = subst (λ l. AreNumbered c.args.parents.now l c.if-parent-x.least.items) (sym label)
-                (subst (λ r. AreNumbered c.args.parents.now (c.loop-x.label.items ++ length c.loop-x.least.items ∷ []) r) (sym least)
+            numbered = subst (λ l. AreNumberedTrees c.args.parents.now l c.if-parent-x.least.items) (sym label)
+                (subst (λ r. AreNumberedTrees c.args.parents.now (c.loop-x.label.items ++ length c.loop-x.least.items ∷ []) r) (sym least)
                 (numbered_root _ _ _ _ c.requires h.each c.loop-x-test.true h.numbered w.if-parent-x.true));
           }
       | else-parent-x+in_ok-push-3 w ↦
@@ -33,8 +33,8 @@ loop-x-preserved c =
           ap (λ v. v.items) w.label-is ∙ w.in_ok-push-3.ensures.items ∙ ap (λ n. c.loop-x.label.items ++ n ∷ []) value in
           record {
             each = one_more _ _ _ _ label h.each;
-            numbered = subst (λ l. AreNumbered c.args.parents.now l c.if-parent-x.least.items) (sym label)
-                (subst (λ r. AreNumbered c.args.parents.now (c.loop-x.label.items ++ slice_index c.loop-x.label.items parent ∷ []) r) (sym (ap (λ v. v.items) w.least-is))
+            numbered = subst (λ l. AreNumberedTrees c.args.parents.now l c.if-parent-x.least.items) (sym label)
+                (subst (λ r. AreNumberedTrees c.args.parents.now (c.loop-x.label.items ++ slice_index c.loop-x.label.items parent ∷ []) r) (sym (ap (λ v. v.items) w.least-is))
                 (numbered_more _ _ _ _ c.requires h.each c.loop-x-test.true h.numbered lower));
           }
     ]

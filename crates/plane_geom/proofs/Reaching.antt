@@ -32,7 +32,7 @@ min_within bound a b p q = record { low = omega (arith, ints, clamps, p.low, q.l
 max_within : (bound : ℕ) (a b : ℤ) → IsWithin bound a → IsWithin bound b → IsWithin bound (int_max a b)
 max_within bound a b p q = record { low = omega (arith, ints, clamps, p.low, q.low); high = omega (arith, ints, clamps, p.high, q.high) }
 
-still_holds : (r : Rect) (p q : Point) → HoldsAround r (pos 0) q → HoldsAround (stretched_to r p) (pos 0) q
+pub still_holds : (r : Rect) (p q : Point) → HoldsAround r (pos 0) q → HoldsAround (stretched_to r p) (pos 0) q
 still_holds r p q h =
     record {
       left = omega (arith, ints, clamps, h.left);
@@ -41,7 +41,7 @@ still_holds r p q h =
       above = omega (arith, ints, clamps, h.above);
     }
 
-holds_it : (r : Rect) (p : Point) → HoldsAround (stretched_to r p) (pos 0) p
+pub holds_it : (r : Rect) (p : Point) → HoldsAround (stretched_to r p) (pos 0) p
 holds_it r p =
     record {
       left = omega (arith, ints, clamps);
@@ -50,7 +50,7 @@ holds_it r p =
       above = omega (arith, ints, clamps);
     }
 
-stretched_in : (half : ℤ) (s r : Rect) (p : Point) → IsRectIn s (thickened half r) → HoldsAround s half p → IsRectIn s (thickened half (stretched_to r p))
+pub stretched_in : (half : ℤ) (s r : Rect) (p : Point) → IsRectIn s (thickened half r) → HoldsAround s half p → IsRectIn s (thickened half (stretched_to r p))
 stretched_in half s r p a h =
     record {
       left = omega (arith, ints, clamps, a.left, h.left);
@@ -77,7 +77,7 @@ hull_more points k r d below near h =
 
 -- ---- the end
 
-widened_holds : (half : ℤ) (r : Rect) (p : Point) → HoldsAround r (pos 0) p → HoldsAround (thickened half r) half p
+pub widened_holds : (half : ℤ) (r : Rect) (p : Point) → HoldsAround r (pos 0) p → HoldsAround (thickened half r) half p
 widened_holds half r p h =
     record {
       left = omega (arith, ints, h.left);

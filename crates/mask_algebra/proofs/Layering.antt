@@ -5,7 +5,6 @@ use Rattle.std.specs.List.{All, list_any}
 use Rattle.std.specs.Str.{bytes_eq}
 use Rattle.std.proofs.Math.Bool.{or-false}
 use Rattle.std.proofs.lemmas.Int.{ints}
-use Rattle.std.proofs.lemmas.List.Elements.{All-weaker}
 use Rattle.std.proofs.lemmas.List.Folds.{list_any_more}
 use Rattle.plane_geom.specs.declared.shapes.Rect.{Rect}
 use Rattle.plane_geom.specs.Bounds.{IsRectWithin}
@@ -39,18 +38,6 @@ cut_other draws name k d rects lt is other h =
           ∙ sym (list_any_more p draws k d lt);
       within = h.within;
     }
-
-rect_weaker : (r : Rect) → IsRectWithin (2 ^ 24) r → IsRectWithin (2 ^ 25) r
-rect_weaker r h =
-    record {
-      x0 = record { low = omega (arith, ints, h.x0.low); high = omega (arith, ints, h.x0.high) };
-      y0 = record { low = omega (arith, ints, h.y0.low); high = omega (arith, ints, h.y0.high) };
-      x1 = record { low = omega (arith, ints, h.x1.low); high = omega (arith, ints, h.x1.high) };
-      y1 = record { low = omega (arith, ints, h.y1.low); high = omega (arith, ints, h.y1.high) };
-    }
-
-pub all_rects_weaker : (rects : List Rect) → All (IsRectWithin (2 ^ 24)) rects → All (IsRectWithin (2 ^ 25)) rects
-all_rects_weaker rects h = All-weaker (IsRectWithin (2 ^ 24)) (IsRectWithin (2 ^ 25)) rect_weaker rects h
 
 -- ---- the region of a layer
 

@@ -2,6 +2,7 @@
 use Rattle.std.proofs.Common.{◌≡◌, ℕ, zero, suc, ◌+◌, ◌<◌, ◌≤◌, ◌^◌, Bool, true, false, ◌&&◌, ◌||◌, List, [], ◌∷◌, ◌++◌, length, take, refl, sym, ap, ◌∙◌, arith}
 use Rattle.std.specs.Prelude.{ℤ, pos, ◌+ℤ◌, ◌-ℤ◌}
 use Rattle.std.specs.List.{All, list_any}
+use Rattle.std.proofs.Math.Bool.{or-false}
 use Rattle.std.proofs.lemmas.Int.{ints}
 use Rattle.std.proofs.lemmas.List.{take_all}
 use Rattle.std.proofs.lemmas.List.Elements.{All-nil, All-push}
@@ -56,10 +57,6 @@ pub record AreGrown (side : ℕ) (strips : List Strip) (k : ℕ) (rects : List R
 pub grown_start : (side : ℕ) (strips : List Strip) (rects : List Rect) → rects ≡ [] → AreGrown side strips 0 rects
 grown_start side strips rects e = rw e (record { within = All-nil (IsRectWithin (2 ^ 25)); cells = λ x y. sym (met_none side x y) })
 
-or_false : (b : Bool) → (b || false) ≡ b
-or_false true = refl
-or_false false = refl
-
 pub grown_more : (side : ℕ) (strips : List Strip) (k : ℕ) (rects made : List Rect) (r : Rect) → k < length strips → AreGrown side strips k rects → IsRectWithin (2 ^ 25) r
     → ((x y : ℤ) → is_in_rect r x y ≡ is_met side (is_in_strip (strip_at strips k)) x y) → made ≡ rects ++ r ∷ [] → AreGrown side strips (k + 1) made
 grown_more side strips k rects made r h so_far near cells e =
@@ -68,7 +65,7 @@ grown_more side strips k rects made r h so_far near cells e =
       within = All-push (IsRectWithin (2 ^ 25)) rects r so_far.within near;
       cells = λ x y.
           list_any-append (λ r. is_in_rect r x y) rects (r ∷ [])
-          ∙ (λ i. so_far.cells x y i || or_false (is_in_rect r x y) i)
+          ∙ (λ i. so_far.cells x y i || or-false (is_in_rect r x y) i)
           ∙ ap (λ b. is_met side (is_in (take k strips)) x y || b) (cells x y)
           ∙ sym (met_either side (is_in (take k strips)) (is_in_strip (strip_at strips k)) x y)
           ∙ is_met_agree side (λ i j. is_in (take k strips) i j || is_in_strip (strip_at strips k) i j) (is_in (take (k + 1) strips)) x y

@@ -100,7 +100,7 @@ turned_none ends x on odd rising before =
 -- ---- the joined row
 
 -- The first i and j ends of two rows are joined into a third.
-pub record AreJoined (op : Joining) (a b : List ℤ) (i j : ℕ) (out : List ℤ) : Type 0 where
+pub record AreJoinedRows (op : Joining) (a b : List ℤ) (i j : ℕ) (out : List ℤ) : Type 0 where
   pub a_row : IsRow a
   pub b_row : IsRow b
   pub a_in : i ≤ length a
@@ -137,8 +137,8 @@ next_later a i0 i b j0 j x y pa pb n = elim n.one [ inl p ↦ rw p.1 (pa.ahead p
 further : (ends : List ℤ) (x y : ℤ) → x <ℤ y → All (λ t. t ≤ℤ x) ends → All (λ t. t <ℤ y) ends
 further ends x y up h = All-weaker (λ t. t ≤ℤ x) (λ t. t <ℤ y) (λ t le. omega (arith, ints)) ends h
 
-pub joined_more : (op : Joining) (a b : List ℤ) (i j : ℕ) (out : List ℤ) (x : ℤ) (i2 j2 : ℕ) (out2 : List ℤ) → AreJoined op a b i j out
-    → IsPast a i x i2 → IsPast b j x j2 → IsTurned out out2 x (joined op (is_odd i2) (is_odd j2)) → AreJoined op a b i2 j2 out2
+pub joined_more : (op : Joining) (a b : List ℤ) (i j : ℕ) (out : List ℤ) (x : ℤ) (i2 j2 : ℕ) (out2 : List ℤ) → AreJoinedRows op a b i j out
+    → IsPast a i x i2 → IsPast b j x j2 → IsTurned out out2 x (joined op (is_odd i2) (is_odd j2)) → AreJoinedRows op a b i2 j2 out2
 joined_more op a b i j out x i2 j2 out2 h pa pb t =
     record {
       a_row = h.a_row;
@@ -157,16 +157,16 @@ joined_more op a b i j out x i2 j2 out2 h pa pb t =
 
 -- ---- ends that change nothing
 
-pub skip_second_one : (op : Joining) (a b : List ℤ) (i j : ℕ) (out : List ℤ) → AreJoined op a b i j out → j < length b → (i < length a → end_at b j <ℤ end_at a i)
-    → ((p q : Bool) → joined op (is_odd i) p ≡ joined op (is_odd i) q) → AreJoined op a b i (j + 1) out
+pub skip_second_one : (op : Joining) (a b : List ℤ) (i j : ℕ) (out : List ℤ) → AreJoinedRows op a b i j out → j < length b → (i < length a → end_at b j <ℤ end_at a i)
+    → ((p q : Bool) → joined op (is_odd i) p ≡ joined op (is_odd i) q) → AreJoinedRows op a b i (j + 1) out
 skip_second_one op a b i j out h lt below settled =
     let x : ℤ = end_at b j in
     let next : IsNextEnd a i b j x = record { in_a = λ l. (let b : end_at b j <ℤ end_at a i = below l in omega (arith, ints)); in_b = λ l. omega (arith, ints); one = inr (lt, refl) } in
     joined_more op a b i j out x i (j + 1) out h (past_none a i x h.a_in below (h.a_before x next)) (past_more b j x lt h.b_row.rising refl (h.b_before x next))
     (turned_none out x (joined op (is_odd i) (is_odd (j + 1))) (h.whole ∙ settled (is_odd j) (is_odd (j + 1))) h.rising (h.out_before x next))
 
-pub skip_first_one : (op : Joining) (a b : List ℤ) (i j : ℕ) (out : List ℤ) → AreJoined op a b i j out → i < length a → (j < length b → end_at a i <ℤ end_at b j)
-    → ((p q : Bool) → joined op p (is_odd j) ≡ joined op q (is_odd j)) → AreJoined op a b (i + 1) j out
+pub skip_first_one : (op : Joining) (a b : List ℤ) (i j : ℕ) (out : List ℤ) → AreJoinedRows op a b i j out → i < length a → (j < length b → end_at a i <ℤ end_at b j)
+    → ((p q : Bool) → joined op p (is_odd j) ≡ joined op q (is_odd j)) → AreJoinedRows op a b (i + 1) j out
 skip_first_one op a b i j out h lt below settled =
     let x : ℤ = end_at a i in
     let next : IsNextEnd a i b j x = record { in_a = λ l. omega (arith, ints); in_b = λ l. (let b : end_at a i <ℤ end_at b j = below l in omega (arith, ints)); one = inl (lt, refl) } in
@@ -187,47 +187,47 @@ skipped_before ends k other l n rising h =
           omega (arith, ints);
     }
 
-skip_second_by : (n : ℕ) (op : Joining) (a b : List ℤ) (i j : ℕ) (out : List ℤ) → AreJoined op a b i j out → IsSkipped b j a i (j + n)
-    → (j < j + n → (p q : Bool) → joined op (is_odd i) p ≡ joined op (is_odd i) q) → AreJoined op a b i (j + n) out
+skip_second_by : (n : ℕ) (op : Joining) (a b : List ℤ) (i j : ℕ) (out : List ℤ) → AreJoinedRows op a b i j out → IsSkipped b j a i (j + n)
+    → (j < j + n → (p q : Bool) → joined op (is_odd i) p ≡ joined op (is_odd i) q) → AreJoinedRows op a b i (j + n) out
 skip_second_by zero op a b i j out h skipped settled =
-    let P : ℕ → Type 0 = λ m. AreJoined op a b i m out in
+    let P : ℕ → Type 0 = λ m. AreJoinedRows op a b i m out in
     let same : j ≡ j + 0 = omega arith in
     subst P same h
 skip_second_by (suc n) op a b i j out h skipped settled =
-    let before : AreJoined op a b i (j + n) out = skip_second_by n op a b i j out h (skipped_before b j a i n h.b_row.rising skipped) (λ some. settled (omega arith)) in
+    let before : AreJoinedRows op a b i (j + n) out = skip_second_by n op a b i j out h (skipped_before b j a i n h.b_row.rising skipped) (λ some. settled (omega arith)) in
     let same : j + suc n - 1 ≡ j + n = omega arith in
     let one : j + n + 1 ≡ j + suc n = omega arith in
-    let P : ℕ → Type 0 = λ m. AreJoined op a b i m out in
+    let P : ℕ → Type 0 = λ m. AreJoinedRows op a b i m out in
     subst P one
     (skip_second_one op a b i (j + n) out before (omega (arith, skipped.in_range)) (λ l. rw (← same) (skipped.below (omega arith) l)) (settled (omega arith)))
 
-skip_first_by : (n : ℕ) (op : Joining) (a b : List ℤ) (i j : ℕ) (out : List ℤ) → AreJoined op a b i j out → IsSkipped a i b j (i + n)
-    → (i < i + n → (p q : Bool) → joined op p (is_odd j) ≡ joined op q (is_odd j)) → AreJoined op a b (i + n) j out
+skip_first_by : (n : ℕ) (op : Joining) (a b : List ℤ) (i j : ℕ) (out : List ℤ) → AreJoinedRows op a b i j out → IsSkipped a i b j (i + n)
+    → (i < i + n → (p q : Bool) → joined op p (is_odd j) ≡ joined op q (is_odd j)) → AreJoinedRows op a b (i + n) j out
 skip_first_by zero op a b i j out h skipped settled =
-    let P : ℕ → Type 0 = λ m. AreJoined op a b m j out in
+    let P : ℕ → Type 0 = λ m. AreJoinedRows op a b m j out in
     let same : i ≡ i + 0 = omega arith in
     subst P same h
 skip_first_by (suc n) op a b i j out h skipped settled =
-    let before : AreJoined op a b (i + n) j out = skip_first_by n op a b i j out h (skipped_before a i b j n h.a_row.rising skipped) (λ some. settled (omega arith)) in
+    let before : AreJoinedRows op a b (i + n) j out = skip_first_by n op a b i j out h (skipped_before a i b j n h.a_row.rising skipped) (λ some. settled (omega arith)) in
     let same : i + suc n - 1 ≡ i + n = omega arith in
     let one : i + n + 1 ≡ i + suc n = omega arith in
-    let P : ℕ → Type 0 = λ m. AreJoined op a b m j out in
+    let P : ℕ → Type 0 = λ m. AreJoinedRows op a b m j out in
     subst P one
     (skip_first_one op a b (i + n) j out before (omega (arith, skipped.in_range)) (λ l. rw (← same) (skipped.below (omega arith) l)) (settled (omega arith)))
 
-pub skip_second : (op : Joining) (a b : List ℤ) (i j : ℕ) (out : List ℤ) (r : ℕ) → AreJoined op a b i j out → IsSkipped b j a i r
-    → (j < r → (p q : Bool) → joined op (is_odd i) p ≡ joined op (is_odd i) q) → AreJoined op a b i r out
+pub skip_second : (op : Joining) (a b : List ℤ) (i j : ℕ) (out : List ℤ) (r : ℕ) → AreJoinedRows op a b i j out → IsSkipped b j a i r
+    → (j < r → (p q : Bool) → joined op (is_odd i) p ≡ joined op (is_odd i) q) → AreJoinedRows op a b i r out
 skip_second op a b i j out r h skipped settled =
     let same : j + (r - j) ≡ r = omega (arith, skipped.from) in
-    let P : ℕ → Type 0 = λ m. AreJoined op a b i m out in
+    let P : ℕ → Type 0 = λ m. AreJoinedRows op a b i m out in
     let Q : ℕ → Type 0 = λ m. IsSkipped b j a i m in
     subst P same (skip_second_by (r - j) op a b i j out h (subst Q (sym same) skipped) (λ some. settled (omega arith)))
 
-pub skip_first : (op : Joining) (a b : List ℤ) (i j : ℕ) (out : List ℤ) (r : ℕ) → AreJoined op a b i j out → IsSkipped a i b j r
-    → (i < r → (p q : Bool) → joined op p (is_odd j) ≡ joined op q (is_odd j)) → AreJoined op a b r j out
+pub skip_first : (op : Joining) (a b : List ℤ) (i j : ℕ) (out : List ℤ) (r : ℕ) → AreJoinedRows op a b i j out → IsSkipped a i b j r
+    → (i < r → (p q : Bool) → joined op p (is_odd j) ≡ joined op q (is_odd j)) → AreJoinedRows op a b r j out
 skip_first op a b i j out r h skipped settled =
     let same : i + (r - i) ≡ r = omega (arith, skipped.from) in
-    let P : ℕ → Type 0 = λ m. AreJoined op a b m j out in
+    let P : ℕ → Type 0 = λ m. AreJoinedRows op a b m j out in
     let Q : ℕ → Type 0 = λ m. IsSkipped a i b j m in
     subst P same (skip_first_by (r - i) op a b i j out h (subst Q (sym same) skipped) (λ some. settled (omega arith)))
 

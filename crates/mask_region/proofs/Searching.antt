@@ -1,14 +1,15 @@
 -- A cell is looked up by halving the list of strips.
-use Rattle.std.proofs.Common.{◌≡◌, ℕ, zero, suc, ◌<◌, ◌≤◌, Bool, true, false, List, [], ◌∷◌, length, get_or, sym, inl, inr, arith}
-use Rattle.std.specs.Prelude.{ℤ, ◌≤ℤ◌, ◌<ℤ◌, slice_index_or}
+use Rattle.std.proofs.Common.{◌≡◌, ℕ, zero, suc, ◌<◌, ◌≤◌, Bool, true, false, List, [], ◌∷◌, length, get_or, Option, Some, None, sym, ◌∙◌, inl, inr, arith}
+use Rattle.std.specs.Prelude.{ℤ, ◌≤ℤ◌, ◌<ℤ◌, slice_index_or, is_some, MatchOption}
 use Rattle.std.specs.List.Sorted.{IsPartitionedBy, IsPartitionPoint}
 use Rattle.std.proofs.lemmas.Bool.{cases_lt, cases_eq}
 use Rattle.std.proofs.lemmas.Int.{ints, by_lt_z}
 use Rattle.std.proofs.lemmas.List.{get_or_default}
 use Rattle.std.proofs.lemmas.List.Elements.{All-get_or, All-from_recursion}
 use Rattle.std.proofs.lemmas.List.Folds.{list_any_none, list_any_at}
+use Rattle.std.proofs.lemmas.Map.Keys.{any_passes_from_place}
 use Rattle.mask_region.specs.declared.strips.Strip.{Strip}
-use Rattle.mask_region.specs.Strips.{is_in_strip, is_in, IsStrip, Follows, IsBanded, Banded}
+use Rattle.mask_region.specs.Strips.{is_in_strip, is_in, HasCellAt, IsStrip, Follows, IsBanded, Banded}
 use Rattle.mask_region.specs.Sweeping.{is_before_cell}
 use Rattle.mask_region.proofs.Banding.{all_strips}
 
@@ -69,3 +70,8 @@ found strips k d x y false banded lt point e =
 pub found_none : (strips : List Strip) (k : ℕ) (x y : ℤ) → length strips ≤ k
     → IsPartitionPoint (λ s. is_before_cell x y s ≡ true) (λ s. is_before_cell x y s ≡ false) strips k → is_in strips x y ≡ false
 found_none strips k x y le point = list_any_none (λ s. is_in_strip s x y) strips (λ i v h. not_inside x y (slice_index_or strips i v) (point.0 i v (omega arith) (omega arith)))
+
+-- A strip is found exactly where one has the cell.
+pub some_found : (strips : List Strip) (x y : ℤ) (at : Option ℕ) (b : Bool) → b ≡ is_some at → MatchOption at (is_in strips x y ≡ false) (λ k. HasCellAt strips x y k) → b ≡ is_in strips x y
+some_found strips x y None b is h = is ∙ sym h
+some_found strips x y (Some k) b is h = is ∙ sym (any_passes_from_place (λ s. is_in_strip s x y) strips k h.strip h.at h.has)

@@ -1,10 +1,10 @@
 -- Strips lie within the bound of their cells.
-use Rattle.std.proofs.Common.{◌≡◌, ℕ, Bool, true, false, ◌||◌, List, [], ◌∷◌, refl, inl, inr, arith, ◌⊎◌}
+use Rattle.std.proofs.Common.{◌≡◌, ℕ, Bool, true, false, ◌||◌, ◌^◌, List, [], ◌∷◌, refl, inl, inr, arith, ◌⊎◌}
 use Rattle.std.specs.Prelude.{ℤ, pos, ◌-ℤ◌, slice_index_or}
 use Rattle.std.specs.List.{All}
 use Rattle.std.proofs.lemmas.Bool.{false≢true}
 use Rattle.std.proofs.lemmas.Int.{ints}
-use Rattle.std.proofs.lemmas.List.Elements.{All-get_or, All-head, All-tail, All-from_recursion}
+use Rattle.std.proofs.lemmas.List.Elements.{All-get_or, All-head, All-tail, All-weaker, All-from_recursion}
 use Rattle.std.proofs.lemmas.List.Folds.{list_any_at}
 use Rattle.plane_geom.specs.declared.shapes.Rect.{Rect}
 use Rattle.plane_geom.specs.Bounds.{IsRectWithin}
@@ -39,7 +39,7 @@ within-cells bound strips banded cells =
           (cells (s.x1 -ℤ pos 1) (s.y1 -ℤ pos 1) (list_any_at (λ t. is_in_strip t (s.x1 -ℤ pos 1) (s.y1 -ℤ pos 1)) strips k d lt (last_cell s strip)));
     }
 
-or_cases : (p q : Bool) → (p || q) ≡ true → (p ≡ true) ⊎ (q ≡ true)
+pub or_cases : (p q : Bool) → (p || q) ≡ true → (p ≡ true) ⊎ (q ≡ true)
 or_cases true q h = inl refl
 or_cases false q h = inr h
 
@@ -90,3 +90,17 @@ within-regions bound strips a b banded ha hb cells =
       | inl here ↦ strips_cell bound a x y ha here
       | inr there ↦ strips_cell bound b x y hb there
     ])
+
+-- ---- a wider bound
+
+rect_wider : (r : Rect) → IsRectWithin (2 ^ 24) r → IsRectWithin (2 ^ 25) r
+rect_wider r h =
+    record {
+      x0 = record { low = omega (arith, ints, h.x0.low); high = omega (arith, ints, h.x0.high) };
+      y0 = record { low = omega (arith, ints, h.y0.low); high = omega (arith, ints, h.y0.high) };
+      x1 = record { low = omega (arith, ints, h.x1.low); high = omega (arith, ints, h.x1.high) };
+      y1 = record { low = omega (arith, ints, h.y1.low); high = omega (arith, ints, h.y1.high) };
+    }
+
+pub rects_wider : (rects : List Rect) → All (IsRectWithin (2 ^ 24)) rects → All (IsRectWithin (2 ^ 25)) rects
+rects_wider rects h = All-weaker (IsRectWithin (2 ^ 24)) (IsRectWithin (2 ^ 25)) rect_wider rects h

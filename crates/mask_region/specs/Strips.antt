@@ -1,15 +1,20 @@
 -- Strips, and the cells of a list of strips.
-use Rattle.std.specs.Prelude.{◌≡◌, ℕ, ◌^◌, ℤ, pos, neg_ℤ, ◌≤ℤ◌, ◌<ℤ◌, Bool, true, ◌&&◌, List, [], ◌∷◌, slice_get, Some}
+use Rattle.std.specs.Prelude.{◌≡◌, ℕ, ◌^◌, ℤ, pos, neg_ℤ, ◌≤ℤ◌, ◌<ℤ◌, Bool, true, List, [], ◌∷◌, slice_get, Some}
 use Rattle.std.specs.List.{All, AllByRecursion, list_any}
 use Rattle.plane_geom.specs.Bounds.{IsWithin}
-use Rattle.plane_geom.specs.Cells.{is_between}
+use Rattle.plane_geom.specs.declared.shapes.Rect.{Rect}
+use Rattle.plane_geom.specs.Cells.{is_in_rect}
 use Rattle.mask_region.specs.declared.strips.Strip.{Strip}
 
 -- ---- cells
 
+-- the rectangle of a strip
+abbrev pub rect_of : Strip → Rect
+rect_of s = record { x0 = s.x0; y0 = s.y0; x1 = s.x1; y1 = s.y1 }
+
 -- the cells of a strip
 abbrev pub is_in_strip : Strip → ℤ → ℤ → Bool
-is_in_strip s x y = is_between s.x0 s.x1 x && is_between s.y0 s.y1 y
+is_in_strip s x y = is_in_rect (rect_of s) x y
 
 -- the cells of all strips of a list
 abbrev pub is_in : List Strip → ℤ → ℤ → Bool

@@ -45,11 +45,7 @@ pub(crate) fn has_cell(strips: &[Strip], cell: Point) -> bool
     requires { Banded strips.now }
     ensures { result ≡ is_in strips.now cell.x cell.y }
 {
-    let k = strips.partition_point(|strip| strip.is_before(cell));
-    match strips.get(k) {
-        Some(strip) => strip.has(cell),
-        None => false,
-    }
+    find_strip(strips, cell).is_some()
 }
 
 /// The index of the strip that has the cell, by a binary search.

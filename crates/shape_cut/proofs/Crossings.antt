@@ -3,6 +3,7 @@ use Rattle.std.proofs.Common.{◌≡◌, ℕ, ◌+◌, ◌<◌, ◌≤◌, Bool,
 use Rattle.std.specs.Prelude.{ℤ, pos, ◌≤ℤ◌, int_lt, count_by}
 use Rattle.std.specs.Int.{int_min}
 use Rattle.std.specs.List.{All, AllByRecursion, list_all}
+use Rattle.std.proofs.lemmas.Bool.{and_parts}
 use Rattle.std.proofs.lemmas.Int.{ints, clamps, by_lt_z}
 use Rattle.std.proofs.lemmas.List.{drop_more, drop_all, length_push}
 use Rattle.std.proofs.lemmas.List.Elements.{All-nil, All-push, All-get_or}
@@ -58,10 +59,6 @@ many_step false ends t n = omega arith
 across_step : (b : Bool) (r : Rect) (ends : List ℤ) (p : Point) → HoldsAround r (pos 0) p → All (IsAcross r) ends → All (IsAcross r) (cond b (ends ++ p.x ∷ []) ends)
 across_step true r ends p held h = All-push (IsAcross r) ends p.x h (record { left = omega (arith, ints, held.left); right = omega (arith, ints, held.right) })
 across_step false r ends p held h = h
-
-and_right : (p q : Bool) → (p && q) ≡ true → q ≡ true
-and_right true q h = h
-and_right false q h = cc
 
 spans_low : (y : ℤ) (p q : Point) → spans y (p, q) ≡ true → int_min p.y q.y ≤ℤ y
 spans_low y p q h = grind (arith, ints, h)
@@ -121,7 +118,7 @@ crossings_more points k first y from ends made lt e h =
       count = edge_more points first to (edges_left to (drop (k + 1) points) first) y from ends made e (λ x. ap (λ l. count_up_to x ends + count_by (is_crossed x y) l) (sym here) ∙ h.count x);
       many = many_more points to (edges_left to (drop (k + 1) points) first) y from ends made e (ap (λ l. length ends + count_by (is_upright y) l) (sym here) ∙ h.many);
       across = λ r all. rw e (across_step (is_upright y (from, to)) r ends from (h.held r all) (h.across r all));
-      low = λ r all some. low_step (is_upright y (from, to)) r y ends from to (λ up. spans_low y from to (and_right (is_vertical (from, to)) (spans y (from, to)) up)) (h.held r all) (holds r all) (h.low r all) (subst (λ l. 0 < length l) e some);
+      low = λ r all some. low_step (is_upright y (from, to)) r y ends from to (λ up. spans_low y from to (and_parts (is_vertical (from, to)) (spans y (from, to)) up).1) (h.held r all) (holds r all) (h.low r all) (subst (λ l. 0 < length l) e some);
       held = holds;
       first_held = h.first_held;
     }
@@ -134,7 +131,7 @@ crossings_end points k first y from ends made le e h =
       count = λ x. add_zero _ ∙ edge_more points first first [] y from ends made e (λ z. ap (λ l. count_up_to z ends + count_by (is_crossed z y) l) (sym here) ∙ h.count z) x;
       many = add_zero _ ∙ many_more points first [] y from ends made e (ap (λ l. length ends + count_by (is_upright y) l) (sym here) ∙ h.many);
       across = λ r all. rw e (across_step (is_upright y (from, first)) r ends from (h.held r all) (h.across r all));
-      low = λ r all some. low_step (is_upright y (from, first)) r y ends from first (λ up. spans_low y from first (and_right (is_vertical (from, first)) (spans y (from, first)) up)) (h.held r all) (h.first_held r all) (h.low r all) (subst (λ l. 0 < length l) e some);
+      low = λ r all some. low_step (is_upright y (from, first)) r y ends from first (λ up. spans_low y from first (and_parts (is_vertical (from, first)) (spans y (from, first)) up).1) (h.held r all) (h.first_held r all) (h.low r all) (subst (λ l. 0 < length l) e some);
     }
   where
     add_zero : (n : ℕ) → n ≡ n + 0
@@ -177,16 +174,12 @@ odd_step : (b : Bool) (n : ℕ) → is_odd (cond b 1 0 + n) ≡ differ b (is_odd
 odd_step true n = grind (arith)
 odd_step false n = grind (arith)
 
-and_left : (p q : Bool) → (p && q) ≡ true → p ≡ true
-and_left true q h = refl
-and_left false q h = h
-
 even_from : (y : ℤ) (p : Point) (ps : List Point) → list_all is_along (edges_from p ps) ≡ true → is_odd (count_by (is_upright y) (edges_from p ps)) ≡ differ (int_lt y p.y) (int_lt y (last_of p ps).y)
 unfolding last_of
 even_from y p [] h = sym (differ_same (int_lt y p.y))
 even_from y p (q ∷ qs) h =
-    let here : is_upright y (p, q) ≡ differ (int_lt y p.y) (int_lt y q.y) = upright_along y p q (and_left (is_along (p, q)) (list_all is_along (edges_from q qs)) h) ∙ spans_differ y p q in
-    let rest = even_from y q qs (and_right (is_along (p, q)) (list_all is_along (edges_from q qs)) h) in
+    let here : is_upright y (p, q) ≡ differ (int_lt y p.y) (int_lt y q.y) = upright_along y p q (and_parts (is_along (p, q)) (list_all is_along (edges_from q qs)) h).0 ∙ spans_differ y p q in
+    let rest = even_from y q qs (and_parts (is_along (p, q)) (list_all is_along (edges_from q qs)) h).1 in
     ap is_odd (count_cons (is_upright y) (p, q) (edges_from q qs))
     ∙ odd_step (is_upright y (p, q)) (count_by (is_upright y) (edges_from q qs))
     ∙ (λ i. differ (here i) (rest i))
@@ -230,7 +223,7 @@ count_same x y z p (q ∷ qs) here rest =
     ∙ (λ i. cond (crossed_same x y z p q here rest.0 i) 1 0 + count_same x y z q qs rest.0 rest.1 i)
     ∙ sym (count_cons (is_crossed x y) (p, q) (edges_from q qs))
 
-all_push : {X : Type 0} (P : X → Type 0) (xs : List X) (x : X) → AllByRecursion P xs → P x → AllByRecursion P (xs ++ x ∷ [])
+pub all_push : {X : Type 0} (P : X → Type 0) (xs : List X) (x : X) → AllByRecursion P xs → P x → AllByRecursion P (xs ++ x ∷ [])
 all_push P [] x h p = (p, tt)
 all_push P (y ∷ xs) x h p = (h.0, all_push P xs x h.1 p)
 

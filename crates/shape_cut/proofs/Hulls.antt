@@ -8,30 +8,12 @@ use Rattle.plane_geom.specs.declared.shapes.Point.{Point}
 use Rattle.plane_geom.specs.declared.shapes.Rect.{Rect}
 use Rattle.plane_geom.specs.Bounds.{IsPointWithin, IsRectWithin}
 use Rattle.plane_geom.specs.Covering.{Figure, polygon, wire, IsRectIn, HoldsAround, IsReach, stretched_to}
-use Rattle.plane_geom.proofs.Reaching.{thickened}
+use Rattle.plane_geom.proofs.Reaching.{thickened, still_holds, holds_it, stretched_in, widened_holds}
 
 -- the least rectangle round points
 hull : Point → List Point → Rect
 hull p [] = record { x0 = p.x; y0 = p.y; x1 = p.x; y1 = p.y }
 hull p (q ∷ qs) = stretched_to (hull q qs) p
-
-still_holds : (r : Rect) (p q : Point) → HoldsAround r (pos 0) q → HoldsAround (stretched_to r p) (pos 0) q
-still_holds r p q h =
-    record {
-      left = omega (arith, ints, clamps, h.left);
-      below = omega (arith, ints, clamps, h.below);
-      right = omega (arith, ints, clamps, h.right);
-      above = omega (arith, ints, clamps, h.above);
-    }
-
-holds_it : (r : Rect) (p : Point) → HoldsAround (stretched_to r p) (pos 0) p
-holds_it r p =
-    record {
-      left = omega (arith, ints, clamps);
-      below = omega (arith, ints, clamps);
-      right = omega (arith, ints, clamps);
-      above = omega (arith, ints, clamps);
-    }
 
 hull_holds : (p : Point) (ps : List Point) → All (HoldsAround (hull p ps) (pos 0)) (p ∷ ps)
 unfolding hull
@@ -43,15 +25,6 @@ hull_holds p (q ∷ qs) =
     All-cons (HoldsAround r (pos 0)) p (q ∷ qs) (holds_it (hull q qs) p)
     (All-weaker (HoldsAround (hull q qs) (pos 0)) (HoldsAround r (pos 0)) (λ a h. still_holds (hull q qs) p a h) (q ∷ qs) (hull_holds q qs))
 
-stretched_in : (half : ℤ) (s r : Rect) (p : Point) → IsRectIn s (thickened half r) → HoldsAround s half p → IsRectIn s (thickened half (stretched_to r p))
-stretched_in half s r p a h =
-    record {
-      left = omega (arith, ints, clamps, a.left, h.left);
-      below = omega (arith, ints, clamps, a.below, h.below);
-      right = omega (arith, ints, clamps, a.right, h.right);
-      above = omega (arith, ints, clamps, a.above, h.above);
-    }
-
 hull_least : (half : ℤ) (s : Rect) (p : Point) (ps : List Point) → All (HoldsAround s half) (p ∷ ps) → IsRectIn s (thickened half (hull p ps))
 unfolding hull
 hull_least half s p [] h =
@@ -59,15 +32,6 @@ hull_least half s p [] h =
     record { left = here.left; below = here.below; right = here.right; above = here.above }
 hull_least half s p (q ∷ qs) h =
     stretched_in half s (hull q qs) p (hull_least half s q qs (All-tail (HoldsAround s half) p (q ∷ qs) h)) (All-head (HoldsAround s half) p (q ∷ qs) h)
-
-widened_holds : (half : ℤ) (r : Rect) (p : Point) → HoldsAround r (pos 0) p → HoldsAround (thickened half r) half p
-widened_holds half r p h =
-    record {
-      left = omega (arith, ints, h.left);
-      below = omega (arith, ints, h.below);
-      right = omega (arith, ints, h.right);
-      above = omega (arith, ints, h.above);
-    }
 
 wire_reach : (half : ℤ) (p : Point) (ps : List Point) → IsReach (wire half (p ∷ ps)) (thickened half (hull p ps))
 wire_reach half p ps =

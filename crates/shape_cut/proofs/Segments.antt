@@ -2,6 +2,7 @@
 use Rattle.std.proofs.Common.{◌≡◌, ℕ, ◌+◌, ◌<◌, ◌≤◌, ◌^◌, Bool, true, false, ◌||◌, List, [], ◌∷◌, ◌++◌, length, drop, refl, sym, ap, ◌∙◌, arith}
 use Rattle.std.specs.Prelude.{ℤ, pos, ◌≤ℤ◌, slice_index_or}
 use Rattle.std.specs.List.{All, list_any}
+use Rattle.std.proofs.Math.Bool.{or-false}
 use Rattle.std.proofs.lemmas.Int.{ints, clamps}
 use Rattle.std.proofs.lemmas.List.{drop_more, drop_all}
 use Rattle.std.proofs.lemmas.List.Elements.{All-nil, All-push, All-get_or}
@@ -82,13 +83,9 @@ widened_more half path k from rects made lt thick near e h =
       inside = λ r held. All-push (IsRectIn r) rects (widened half (from, to)) (h.inside r held) (widened_inside half from to r (h.held r held) (All-get_or (HoldsAround r half) path k no_point lt held));
     })
 
-or_false : (b : Bool) → (b || false) ≡ b
-or_false true = refl
-or_false false = refl
-
 pub widened_end : (half : ℤ) (path : List Point) (k : ℕ) (from : Point) (rects : List Rect) → length path ≤ k → AreWidened half path k from rects → (x y : ℤ) → is_in_rects rects x y ≡ wire_covers half path x y
 widened_end half path k from rects le h x y =
-    sym (or_false (is_in_rects rects x y)) ∙ ap (λ l. is_in_rects rects x y || covered_from half from l x y) (sym (drop_all k path le)) ∙ h.cells x y
+    sym (or-false (is_in_rects rects x y)) ∙ ap (λ l. is_in_rects rects x y || covered_from half from l x y) (sym (drop_all k path le)) ∙ h.cells x y
 
 -- ---- a wire of one point
 

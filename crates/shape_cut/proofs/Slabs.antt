@@ -13,17 +13,13 @@ use Rattle.plane_geom.specs.Bounds.{IsPointWithin}
 use Rattle.plane_geom.specs.Cells.{is_between, is_in_rects}
 use Rattle.plane_geom.specs.Ends.{is_odd, flips}
 use Rattle.plane_geom.specs.Covering.{outline, polygon_covers, IsRect, IsRectIn, HoldsAround, IsOutline}
-use Rattle.shape_cut.specs.Slabs.{nearest, IsOutside, IsNextRow, IsNextOf, IsNext, IsAcross, AreCrossings, IsPaired}
+use Rattle.shape_cut.specs.Slabs.{nearest, IsOutside, IsNextRow, IsNextOf, IsNextCornerRow, IsAcross, AreCrossings, IsPaired}
 use Rattle.shape_cut.proofs.Segments.{no_point, point_at}
-use Rattle.shape_cut.proofs.Crossings.{outline_even, flips_count, covers_same, covers_none}
+use Rattle.shape_cut.proofs.Crossings.{outline_even, flips_count, all_push, covers_same, covers_none}
 
 all_as : {X : Type 0} (P Q : X → Type 0) (xs : List X) → ((x : X) → P x → Q x) → AllByRecursion P xs → AllByRecursion Q xs
 all_as P Q [] f h = tt
 all_as P Q (x ∷ xs) f h = (f x h.0, all_as P Q xs f h.1)
-
-all_push : {X : Type 0} (P : X → Type 0) (xs : List X) (x : X) → AllByRecursion P xs → P x → AllByRecursion P (xs ++ x ∷ [])
-all_push P [] x h p = (p, tt)
-all_push P (y ∷ xs) x h p = (h.0, all_push P xs x h.1 p)
 
 -- ---- the next row
 
@@ -71,16 +67,16 @@ next_more_of points k y None lt near h = next_none points k y (int_lt y (point_a
 next_more_of points k y (Some n) lt near h = next_some points k y n (int_lt y (point_at points k).y) (int_lt (point_at points k).y n) refl refl lt near h
 
 pub next_more : (points : List Point) (k : ℕ) (y : ℤ) (next made : Option ℤ) → k < length points → All (IsPointWithin (2 ^ 24)) points → made ≡ nearest y (point_at points k).y next
-    → IsNext points (take k points) y next → IsNext points (take (k + 1) points) y made
+    → IsNextCornerRow points (take k points) y next → IsNextCornerRow points (take (k + 1) points) y made
 next_more points k y next made lt near e h =
     let P : List Point → Type 0 = λ l. IsNextOf points l y (nearest y (point_at points k).y next) in
     rw e (record { is = subst P (sym (take_more points k no_point lt)) (next_more_of points k y next lt near h.is) })
 
-pub next_start : (points : List Point) (y : ℤ) → IsNext points [] y None
+pub next_start : (points : List Point) (y : ℤ) → IsNextCornerRow points [] y None
 next_start points y = record { is = tt }
 
-pub next_all : (points : List Point) (k : ℕ) (y : ℤ) (next : Option ℤ) → length points ≤ k → IsNext points (take k points) y next → IsNext points points y next
-next_all points k y next le h = let P : List Point → Type 0 = λ l. IsNext points l y next in subst P (take_all k points le) h
+pub next_all : (points : List Point) (k : ℕ) (y : ℤ) (next : Option ℤ) → length points ≤ k → IsNextCornerRow points (take k points) y next → IsNextCornerRow points points y next
+next_all points k y next le h = let P : List Point → Type 0 = λ l. IsNextCornerRow points l y next in subst P (take_all k points le) h
 
 -- ---- the slabs so far
 
@@ -167,7 +163,7 @@ cut_more points y n rects made found ends h next crossings sorted paired =
 below_all : (y z : ℤ) (p : Point) → p.y ≤ℤ y → y ≤ℤ z → int_lt z p.y ≡ false
 below_all y z p a b = grind (arith, ints)
 
-pub cut_end : (points : List Point) (y : ℤ) (rects : List Rect) → IsCutTo points y rects → IsNext points points y None → (x z : ℤ) → is_in_rects rects x z ≡ polygon_covers points x z
+pub cut_end : (points : List Point) (y : ℤ) (rects : List Rect) → IsCutTo points y rects → IsNextCornerRow points points y None → (x z : ℤ) → is_in_rects rects x z ≡ polygon_covers points x z
 cut_end points y rects h next x z =
     by_lt_z z y (λ below. h.cells x z below)
     (λ above. h.none x z above ∙ sym (covers_none points x z false (all_as (λ p. p.y ≤ℤ y) (λ p. int_lt z p.y ≡ false) points (λ p le. below_all y z p le above) next.is)))

@@ -30,12 +30,13 @@ abbrev pub IsNextOf : List Point → List Point → ℤ → Option ℤ → Type 
 IsNextOf points taken y None = AllByRecursion (λ p. p.y ≤ℤ y) taken
 IsNextOf points taken y (Some n) = IsNextRow points taken y n
 
-pub record IsNext (points taken : List Point) (y : ℤ) (next : Option ℤ) : Type 0 where
+-- The answer is the lowest row of a corner above y, or none where no corner is above it.
+pub record IsNextCornerRow (points taken : List Point) (y : ℤ) (next : Option ℤ) : Type 0 where
   pub is : IsNextOf points taken y next
 
 -- ---- the edges that a row crosses
 
--- how many of the ends lie at or before x
+-- how many of the ends lie at or before x; `flips` says whether it is an odd number
 abbrev pub count_up_to : ℤ → List ℤ → ℕ
 count_up_to x ends = count_by (λ t. not (int_lt x t)) ends
 

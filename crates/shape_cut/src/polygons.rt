@@ -6,7 +6,7 @@ ghost use Rattle.plane_geom.specs.Cells.{is_between, is_in_rects};
 ghost use Rattle.plane_geom.specs.Ends.{is_odd, flips};
 ghost use Rattle.plane_geom.specs.Covering.{polygon_covers, is_vertical, spans, outline, IsOutline, IsRect, IsRectIn, HoldsAround};
 ghost use Rattle.std.specs.Int.{int_min, int_max};
-ghost use Rattle.shape_cut.specs.Slabs.{nearest, IsNext, AreCrossings, IsPaired, AreNotFalling};
+ghost use Rattle.shape_cut.specs.Slabs.{nearest, IsNextCornerRow, AreCrossings, IsPaired, AreNotFalling};
 
 use plane_geom::{Point, RANGE, Rect};
 use std::alloc::{AllocError, Global};
@@ -36,7 +36,7 @@ pub(crate) fn cut_polygon(alloc: Global, points: &[Point]) -> Result<Vec<Rect>, 
 /// The lowest row of a corner above `y`.
 fn next_row(points: &[Point], y: i64) -> Option<i64>
     requires { All (IsPointWithin (2 ^ 24)) points.now }
-    ensures { IsNext points.now points.now y result }
+    ensures { IsNextCornerRow points.now points.now y result }
 {
     let mut next = None;
     for p in points {

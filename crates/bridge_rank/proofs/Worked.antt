@@ -3,10 +3,10 @@ use Rattle.std.proofs.Common.{◌≡◌, ℕ, zero, suc, true, false, List, [], 
 use Rattle.std.specs.Prelude.{IsSorted}
 use Rattle.std.proofs.lemmas.List.Sorted.{length_permutation}
 use Rattle.std.specs.declared.cmp.Ordering.TheVariants.{Less, Equal, Greater}
-use Rattle.defect_sweep.specs.Counting.{Count, pair_of}
+use Rattle.defect_sweep.specs.Counting.{BridgeCount, pair_of}
 use Rattle.bridge_rank.specs.Ranking.{rank_order, IsRanked}
 
-count : ℕ → ℕ → ℕ → Count
+count : ℕ → ℕ → ℕ → BridgeCount
 count a b total = record { pair = pair_of a b; total = total; on = [] }
 
 -- ---- the order
@@ -44,7 +44,7 @@ two_ranked = record { same = record { moves = (0, 1) ∷ []; below = (omega arit
   rises zero d low high = refl
   rises (suc k) d low high = absurd (omega (arith, high))
 
-smaller_first : (counts : List Count) → IsRanked counts (count 0 1 9 ∷ count 5 6 10 ∷ []) → ⊥
+smaller_first : (counts : List BridgeCount) → IsRanked counts (count 0 1 9 ∷ count 5 6 10 ∷ []) → ⊥
 unfolding count
 smaller_first counts h = let less : true ≡ false = h.order 0 (count 0 1 9) (omega arith) (omega arith) in cc
 

@@ -3,7 +3,7 @@ use Rattle.std.proofs.Common.{◌≡◌, ℕ, List, Some, sym, ◌∙◌, subst}
 use Rattle.probe_io.specs.Files.{File}
 use Rattle.net_trace.specs.Touching.{Nets}
 use Rattle.defect_sweep.specs.declared.sides.SideWeight.{SideWeight}
-use Rattle.defect_sweep.specs.Counting.{Count}
+use Rattle.defect_sweep.specs.Counting.{BridgeCount}
 use Rattle.bridge_rank.specs.Ranking.{IsRanked}
 use Rattle.layer_map.specs.Plan.{wire_names}
 use Rattle.carafe_core.specs.Report.{report_text, IsRanking}
@@ -14,7 +14,7 @@ use Rattle.bridge_rank.proofs.Ranks.{one_ranking}
 use Rattle.carafe_core.proofs.Exactness.{one_plan, one_named, same_sides}
 
 -- the bridges of the same nets are listed in one order
-one_ranked : (a b : Nets) (sides : List SideWeight) (ranked others : List Count) → AreSameNets a b → IsRanking a sides ranked → IsRanking b sides others → ranked ≡ others
+one_ranked : (a b : Nets) (sides : List SideWeight) (ranked others : List BridgeCount) → AreSameNets a b → IsRanking a sides ranked → IsRanking b sides others → ranked ≡ others
 one_ranked a b sides ranked others same here there =
     one_ranking b sides there.counts ranked others there.counted (subst (λ counts. IsRanked counts ranked) (counts_alike a b sides here.counts there.counts same here.counted there.counted) here.ranks) there.ranks
 

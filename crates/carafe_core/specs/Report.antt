@@ -8,7 +8,7 @@ use Rattle.layer_map.specs.Plan.{Plan, wire_names}
 use Rattle.net_trace.specs.Touching.{Nets}
 use Rattle.layout_extract.specs.Layouts.{NamedNets}
 use Rattle.defect_sweep.specs.declared.sides.SideWeight.{SideWeight}
-use Rattle.defect_sweep.specs.Counting.{Count}
+use Rattle.defect_sweep.specs.Counting.{BridgeCount}
 use Rattle.defect_sweep.specs.Bridges.{AreCounts}
 use Rattle.bridge_rank.specs.Ranking.{IsRanked}
 use Rattle.carafe_core.specs.Sides.{sides_text}
@@ -44,15 +44,15 @@ unfoldable pub wire_count : List (List ℕ) → WireId × ℕ → List ℕ
 wire_count wires c = concat (codes " " ∷ name_at wires c.0.0 ∷ codes "=" ∷ decimal c.1 ∷ [])
 
 -- the place in the list, from 1, the two nets and the count in all
-unfoldable pub bridge_start : List (List ℕ) → ℕ → Count → List ℕ
+unfoldable pub bridge_start : List (List ℕ) → ℕ → BridgeCount → List ℕ
 bridge_start names place bridge =
     concat (codes "bridge " ∷ decimal place ∷ codes " " ∷ name_at names bridge.pair.a.0 ∷ codes " " ∷ name_at names bridge.pair.b.0 ∷ codes " " ∷ decimal bridge.total ∷ [])
 
 -- the line of the bridge at this place in the list
-abbrev pub bridge_line : List (List ℕ) → List (List ℕ) → ℕ → Count → List ℕ
+abbrev pub bridge_line : List (List ℕ) → List (List ℕ) → ℕ → BridgeCount → List ℕ
 bridge_line wires names place bridge = bridge_start names place bridge ++ (flat_map (wire_count wires) bridge.on ++ codes "\n")
 
-abbrev pub bridge_lines : List (List ℕ) → List (List ℕ) → ℕ → List Count → List ℕ
+abbrev pub bridge_lines : List (List ℕ) → List (List ℕ) → ℕ → List BridgeCount → List ℕ
 bridge_lines wires names place [] = []
 bridge_lines wires names place (bridge ∷ bridges) = bridge_line wires names place bridge ++ bridge_lines wires names (suc place) bridges
 
@@ -60,7 +60,7 @@ unfoldable pub tally : ℕ → List ℕ
 tally bridges = concat (codes "tally bridges " ∷ decimal bridges ∷ codes "\n" ∷ [])
 
 -- the whole text, given the sides, the names of the wires and of the nets, the labels' tallies and the ranked list
-abbrev pub report_text : List SideWeight → List (List ℕ) → List (List ℕ) → Tallies → List Count → List ℕ
+abbrev pub report_text : List SideWeight → List (List ℕ) → List (List ℕ) → Tallies → List BridgeCount → List ℕ
 report_text sides wires names tallies ranked = header sides (length names) tallies (length ranked) ++ (bridge_lines wires names 1 ranked ++ tally (length ranked))
 
 -- the names of a map's lines of wires
@@ -72,14 +72,14 @@ tallies_of named = record { bound = named.bound; unbound = named.unbound; deep =
 
 -- The list has each two nets that some placement of a square of these sides meets on a wire, with their counts, in the
 -- order of their ranks. There are not too many.
-pub record IsRanking (nets : Nets) (sides : List SideWeight) (ranked : List Count) : Type 0 where
-  pub counts : List Count
+pub record IsRanking (nets : Nets) (sides : List SideWeight) (ranked : List BridgeCount) : Type 0 where
+  pub counts : List BridgeCount
   pub counted : AreCounts nets sides counts
   pub few : length counts ≤ 65536
   pub ranks : IsRanked counts ranked
 
 -- The text is the report on the layout with these named nets under the map, for defects of these sides.
 pub record IsBridgesReport (sides : List SideWeight) (plan : Plan) (named : NamedNets) (text : List ℕ) : Type 0 where
-  pub ranked : List Count
+  pub ranked : List BridgeCount
   pub ranking : IsRanking named.nets sides ranked
   pub whole : text ≡ report_text sides (wire_names plan) named.names (tallies_of named) ranked

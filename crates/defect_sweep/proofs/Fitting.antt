@@ -14,16 +14,16 @@ use Rattle.mask_region.specs.Strips.{is_in, AreStripsWithin, AreRegionsWithin}
 use Rattle.defect_sweep.specs.declared.pairs.Pair.{Pair}
 use Rattle.defect_sweep.specs.declared.sides.SideWeight.{SideWeight}
 use Rattle.defect_sweep.specs.Sides.{IsSide, AreSides}
-use Rattle.defect_sweep.specs.Counting.{Count, placements_on_both, weighted, count_of, count_on, counts_of, pairs_below, region_at}
+use Rattle.defect_sweep.specs.Counting.{BridgeCount, placements_on_both, weighted, count_of, count_on, counts_of, pairs_below, region_at}
 use Rattle.defect_sweep.specs.Bridges.{IsFitting}
 use Rattle.defect_sweep.proofs.Near.{count_within, met_near}
-use Rattle.defect_sweep.proofs.Meeting.{and_true}
+use Rattle.std.proofs.lemmas.Bool.{cases_lt, and_parts}
 
 side_small : (s : SideWeight) (a b : List Strip) → IsSide s → AreStripsWithin (2 ^ 24) a → s.weight * placements_on_both s.cells (is_in a) (is_in b) ≤ 30 * 2 ^ 51
 side_small s a b side within =
     let few =
     count_within (2 ^ 24 + 2 ^ 16) (λ x y. is_met s.cells (is_in a) x y && is_met s.cells (is_in b) x y) (omega arith)
-    (λ x y h. met_near (2 ^ 24) (2 ^ 16) s.cells a x y (omega arith) side.some (omega (arith, side.small)) within (and_true (is_met s.cells (is_in a) x y) (is_met s.cells (is_in b) x y) h))
+    (λ x y h. met_near (2 ^ 24) (2 ^ 16) s.cells a x y (omega arith) side.some (omega (arith, side.small)) within (and_parts (is_met s.cells (is_in a) x y) (is_met s.cells (is_in b) x y) h).0)
     in
     mul-le s.weight (placements_on_both s.cells (is_in a) (is_in b)) 30 (2 ^ 51) side.light (omega (arith, few))
 
@@ -35,11 +35,8 @@ weighted_small sides a b are within =
     in
     omega (arith, sum, mul-le (length sides) (30 * 2 ^ 51) 8 (30 * 2 ^ 51) are.few (omega arith))
 
-in_or_past : (j n : ℕ) → (j < n) ⊎ (n ≤ j)
-in_or_past j n = grind arith
-
 near_at : (regions : List (List Strip)) (k : ℕ) → AreRegionsWithin (2 ^ 24) regions → AreStripsWithin (2 ^ 24) (slice_index_or regions k [])
-near_at regions k within = elim (in_or_past k (length regions)) [
+near_at regions k within = elim (cases_lt k (length regions)) [
   | inl lt ↦ within.each k [] lt
   | inr past ↦ subst (λ r. AreStripsWithin (2 ^ 24) r) (sym (get_or_past regions k [] past)) (record { each = λ j d lt. absurd (omega (arith, lt)) })
 ]
@@ -62,6 +59,6 @@ fits_pair sides wires regions pair are few within =
 
 pub counts_fit : (sides : List SideWeight) (nets wires : ℕ) (regions : List (List Strip)) → AreSides sides → wires ≤ 16 → AreRegionsWithin (2 ^ 24) regions → All IsFitting (counts_of sides nets wires regions)
 counts_fit sides nets wires regions are few within =
-    let count : Pair → Count = λ pair. count_of wires pair (count_on sides wires regions pair) in
+    let count : Pair → BridgeCount = λ pair. count_of wires pair (count_on sides wires regions pair) in
     All-filter (λ c. nat_lt 0 c.total) IsFitting (map count (pairs_below nets))
     (All-map IsFitting count (pairs_below nets) (λ k d lt. fits_pair sides wires regions (slice_index_or (pairs_below nets) k d) are few within))

@@ -1,7 +1,7 @@
 -- Rectangles that hold others, and sets of cells.
 use Rattle.std.proofs.Common.{◌≡◌, ℕ, ◌+◌, ◌<◌, ◌≤◌, Bool, true, false, ◌&&◌, ◌||◌, List, [], length, take, refl, sym, ◌∙◌, subst, arith, inl, inr, ◌⊎◌}
 use Rattle.std.specs.Prelude.{ℤ, ◌≤ℤ◌}
-use Rattle.std.proofs.lemmas.Bool.{false≢true}
+use Rattle.std.proofs.lemmas.Bool.{false≢true, cases_lt}
 use Rattle.std.proofs.lemmas.Int.{ints}
 use Rattle.std.proofs.lemmas.List.{take_all, get_or_past}
 use Rattle.std.proofs.lemmas.List.Folds.{list_any_more}
@@ -11,6 +11,7 @@ use Rattle.mask_region.specs.declared.strips.Strip.{Strip}
 use Rattle.mask_region.specs.Strips.{is_in, is_in_strip}
 use Rattle.mask_region.proofs.Banding.{no_strip, strip_at}
 use Rattle.defect_sweep.specs.Reaching.{Holds, HoldsStrip, HoldsStrips, HoldsAll, AreApart, placements_at}
+use Rattle.net_trace.proofs.Lists.{last_or_before}
 
 -- ---- spans and rectangles
 
@@ -83,9 +84,6 @@ wider old new strips h so_far = record { cells = λ x y e. h.cells x y (so_far.c
 pub first_none : (bounds : Rect) (lists : List (List Strip)) → HoldsFirst bounds lists 0
 first_none bounds lists = record { each = λ j lt. absurd (omega (arith, lt)) }
 
-last_or_before : (j k : ℕ) → j < k + 1 → (j < k) ⊎ (j ≡ k)
-last_or_before j k lt = grind arith
-
 pub first_more : (old new rect : Rect) (lists : List (List Strip)) (k : ℕ) → Holds new old → Holds new rect → HoldsStrips rect (placements_at lists k) → HoldsFirst old lists k
     → HoldsFirst new lists (k + 1)
 first_more old new rect lists k first second here so_far =
@@ -99,11 +97,8 @@ first_more old new rect lists k first second here so_far =
 pub first_all : (bounds : Rect) (lists : List (List Strip)) (k : ℕ) → length lists ≤ k → HoldsFirst bounds lists k → HoldsAll bounds lists
 first_all bounds lists k le h =
     record {
-      each = λ j. elim (in_or_past j (length lists)) [
+      each = λ j. elim (cases_lt j (length lists)) [
         | inl within ↦ h.each j (omega (arith, within, le))
         | inr past ↦ subst (λ ss. HoldsStrips bounds ss) (sym (get_or_past lists j [] past)) (strips_none bounds)
       ];
     }
-  where
-    in_or_past : (j n : ℕ) → (j < n) ⊎ (n ≤ j)
-    in_or_past j n = grind arith

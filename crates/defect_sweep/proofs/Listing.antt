@@ -9,13 +9,10 @@ use Rattle.std.proofs.lemmas.List.FromFn.{map-range_with_len_more, fill_by_all}
 use Rattle.std.proofs.lemmas.List.Sums.{sum_by-cons}
 use Rattle.std.proofs.lemmas.Grind.{flat_map-append}
 use Rattle.defect_sweep.specs.declared.pairs.Pair.{Pair}
-use Rattle.defect_sweep.specs.Counting.{Count, count_of, pair_of, pairs_with, pairs_below, listed}
+use Rattle.defect_sweep.specs.Counting.{BridgeCount, count_of, pair_of, pairs_with, pairs_below, listed}
+use Rattle.net_trace.proofs.Lists.{range_more}
 
 -- ---- numbers in a row
-
-pub range_more : (a n j : ℕ) → a + n ≡ j → range_with_len a (n + 1) ≡ range_with_len a n ++ j ∷ []
-range_more a n j e =
-    sym (map-id (range_with_len a (n + 1))) ∙ map-range_with_len_more (λ (x : ℕ). x) a n j e ∙ ap (λ xs. xs ++ j ∷ []) (map-id (range_with_len a n))
 
 pub all_range : (Q : ℕ → Type 0) (a n : ℕ) → ((k : ℕ) → a ≤ k → k < a + n → Q k) → AllByRecursion Q (range_with_len a n)
 all_range Q a zero each = tt
@@ -77,9 +74,9 @@ sum_places f xs d =
 
 -- ---- rows
 
-module _ (count : Pair → Count) where
+module _ (count : Pair → BridgeCount) where
   -- the counts above 0 of a net with each of the next k nets
-  abbrev pub row : ℕ → ℕ → List Count
+  abbrev pub row : ℕ → ℕ → List BridgeCount
   row a k = listed (map count (map (λ b. pair_of a b) (range_with_len (a + 1) k)))
 
   listed_more : (xs : List Pair) (pair : Pair) → listed (map count (xs ++ pair ∷ [])) ≡ listed (map count xs) ++ listed (count pair ∷ [])
@@ -105,7 +102,7 @@ module _ (count : Pair → Count) where
   row_up a k n le = subst (λ m. length (row a k) ≤ length (row a m)) (omega (arith, le)) (row_longer a k (n - k))
 
   -- the counts above 0 of the first k nets, of so many in all
-  abbrev pub rows : ℕ → ℕ → List Count
+  abbrev pub rows : ℕ → ℕ → List BridgeCount
   rows nets k = listed (map count (flat_map (λ a. pairs_with nets a) (range_with_len 0 k)))
 
   pub rows_more : (nets k : ℕ) → rows nets (k + 1) ≡ rows nets k ++ row k (nets - (k + 1))

@@ -2,7 +2,7 @@
 use Rattle.std.proofs.Common.{◌≡◌, ℕ, ◌+◌, ◌*◌, ◌<◌, ◌≤◌, ◌^◌, Bool, true, false, ◌&&◌, List, [], ◌∷◌, length, get_or, refl, sym, ap, ◌∙◌, arith}
 use Rattle.std.specs.Prelude.{ℤ, sum_by}
 use Rattle.std.specs.List.{range_with_len}
-use Rattle.std.proofs.lemmas.Bool.{false≢true}
+use Rattle.std.proofs.lemmas.Bool.{false≢true, and_parts}
 use Rattle.std.proofs.lemmas.Nat.{mul-le}
 use Rattle.std.proofs.lemmas.List.{get_or_read}
 use Rattle.std.proofs.lemmas.List.Elements.{All-get_or}
@@ -37,17 +37,13 @@ sum_zero f (x ∷ xs) none = omega (arith, sum_by-cons f x xs, none x, sum_zero 
 pub side_of_all : (sides : List SideWeight) (k : ℕ) → k < length sides → AreSides sides → IsSide (side_at sides k)
 side_of_all sides k lt h = All-get_or IsSide sides k no_side lt h.each
 
-pub and_true : (p q : Bool) → (p && q) ≡ true → p ≡ true
-and_true true q h = refl
-and_true false q h = h
-
 -- a count of placements
 pub meets_small : (a b : List (List Strip)) (k : ℕ) → AreNear a → count_cells (λ x y. is_in (placements_at a k) x y && is_in (placements_at b k) x y) < 2 ^ 51
 meets_small a b k near =
     omega (
       arith,
       count_within (2 ^ 24 + 2 ^ 16) (λ x y. is_in (placements_at a k) x y && is_in (placements_at b k) x y) (omega arith)
-          (λ x y h. near.cells k x y (and_true (is_in (placements_at a k) x y) (is_in (placements_at b k) x y) h)),
+          (λ x y h. near.cells k x y (and_parts (is_in (placements_at a k) x y) (is_in (placements_at b k) x y) h).0),
     )
 
 -- ---- nets that lie apart

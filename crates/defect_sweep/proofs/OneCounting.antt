@@ -7,7 +7,7 @@ use Rattle.net_trace.specs.Touching.{Nets}
 use Rattle.net_trace.specs.Nets.{IsNetCount, AreRegionsOf, IsRegionOf}
 use Rattle.net_trace.proofs.NetNumbers.{net_count, net_region}
 use Rattle.defect_sweep.specs.declared.sides.SideWeight.{SideWeight}
-use Rattle.defect_sweep.specs.Counting.{Count, weighted, region_at, count_on, counts_of}
+use Rattle.defect_sweep.specs.Counting.{BridgeCount, weighted, region_at, count_on, counts_of}
 use Rattle.defect_sweep.specs.Bridges.{AreCounts, HasManyBridges}
 use Rattle.defect_sweep.proofs.Listing.{listed_agree}
 
@@ -34,12 +34,12 @@ by_regions nets sides regions others are also =
     in
     λ i. weighted sides (first i) (second i))
 
-pub one_counting : (nets : Nets) (sides : List SideWeight) (counts others : List Count) → AreCounts nets sides counts → AreCounts nets sides others → counts ≡ others
+pub one_counting : (nets : Nets) (sides : List SideWeight) (counts others : List BridgeCount) → AreCounts nets sides counts → AreCounts nets sides others → counts ≡ others
 one_counting nets sides counts others h k =
     let same : h.are.count ≡ k.are.count = net_count nets h.are.count k.are.count h.are.is_count k.are.is_count in
     h.is ∙ by_regions nets sides h.regions k.regions h.are k.are ∙ ap (λ n. counts_of sides n (length nets.wires) k.regions) same ∙ sym k.is
 
-pub many : (nets : Nets) (sides : List SideWeight) (counts : List Count) → AreCounts nets sides counts → HasManyBridges nets sides → 65536 < length counts
+pub many : (nets : Nets) (sides : List SideWeight) (counts : List BridgeCount) → AreCounts nets sides counts → HasManyBridges nets sides → 65536 < length counts
 many nets sides counts h m = omega (arith, m.many, ap (λ xs. length xs) (one_counting nets sides counts m.list h m.are))
 
 pub counts_by_regions : (nets : Nets) (sides : List SideWeight) (regions : List (List Strip)) (count : ℕ) → AreRegionsOf nets regions → IsNetCount nets count

@@ -1,7 +1,7 @@
 -- The placements that meet a region, side by side.
 use Rattle.std.proofs.Common.{◌≡◌, ℕ, ◌+◌, ◌<◌, ◌≤◌, ◌^◌, List, [], ◌∷◌, ◌++◌, length, sym, ap, ◌∙◌, subst, arith, inl, inr, ◌⊎◌}
 use Rattle.std.specs.Prelude.{ℤ}
-use Rattle.std.proofs.lemmas.Bool.{false≢true}
+use Rattle.std.proofs.lemmas.Bool.{false≢true, cases_lt}
 use Rattle.std.proofs.lemmas.List.{get_or_past, get_or_append_left, get_or_push, length_push}
 use Rattle.plane_geom.specs.Cells.{is_met}
 use Rattle.mask_region.specs.declared.strips.Strip.{Strip}
@@ -11,6 +11,7 @@ use Rattle.defect_sweep.specs.Sides.{AreSides, side_at}
 use Rattle.defect_sweep.specs.Reaching.{placements_at, ArePlacements, AreNear}
 use Rattle.defect_sweep.proofs.Near.{met_near}
 use Rattle.defect_sweep.proofs.Meeting.{side_of_all}
+use Rattle.net_trace.proofs.Lists.{last_or_before}
 
 -- the placements for the first k sides
 pub record ArePlaced (sides : List SideWeight) (region : List Strip) (k : ℕ) (placements : List (List Strip)) : Type 0 where
@@ -19,9 +20,6 @@ pub record ArePlaced (sides : List SideWeight) (region : List Strip) (k : ℕ) (
 
 pub placed_none : (sides : List SideWeight) (region : List Strip) (placements : List (List Strip)) → placements ≡ [] → ArePlaced sides region 0 placements
 placed_none sides region placements e = record { each = ap (λ xs. length xs) e; cells = λ j lt. absurd (omega (arith, lt)) }
-
-last_or_before : (j k : ℕ) → j < k + 1 → (j < k) ⊎ (j ≡ k)
-last_or_before j k lt = grind arith
 
 pub placed_more : (sides : List SideWeight) (region : List Strip) (k : ℕ) (old new : List (List Strip)) (grown : List Strip) → ArePlaced sides region k old
     → ((x y : ℤ) → is_in grown x y ≡ is_met (side_at sides k).cells (is_in region) x y) → new ≡ old ++ grown ∷ [] → ArePlaced sides region (k + 1) new
@@ -41,15 +39,12 @@ pub placed_all : (sides : List SideWeight) (region : List Strip) (k : ℕ) (plac
     → ArePlacements sides region placements
 placed_all sides region k placements le ge h = record { each = omega (arith, h.each, le, ge); cells = λ j lt. h.cells j (omega (arith, lt, le)) }
 
-in_or_past : (j n : ℕ) → (j < n) ⊎ (n ≤ j)
-in_or_past j n = grind arith
-
 -- all of them lie near the layout
 pub placements_near : (sides : List SideWeight) (region : List Strip) (placements : List (List Strip)) → AreSides sides → AreStripsWithin (2 ^ 24) region → ArePlacements sides region placements
     → AreNear placements
 placements_near sides region placements are within h =
     record {
-      cells = λ j x y e. elim (in_or_past j (length placements)) [
+      cells = λ j x y e. elim (cases_lt j (length placements)) [
         | inl lt ↦
             let side = side_of_all sides j (omega (arith, lt, h.each)) are in
             met_near (2 ^ 24) (2 ^ 16) (side_at sides j).cells region x y (omega arith) side.some (omega (arith, side.small)) within (sym (h.cells j (omega (arith, lt, h.each)) x y) ∙ e)

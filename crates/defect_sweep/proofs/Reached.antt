@@ -13,6 +13,8 @@ use Rattle.defect_sweep.specs.Counting.{count_of}
 use Rattle.defect_sweep.specs.Reaching.{Holds, HoldsAll, Reach, no_reach, reach_at, placements_at, ArePlacements, AreReachesOf, AreForSides, meets, wire_meets, above_0}
 use Rattle.defect_sweep.proofs.Holding.{wider, strips_none}
 use Rattle.defect_sweep.proofs.Meeting.{sum_more}
+use Rattle.net_trace.proofs.Lists.{last_or_before}
+use Rattle.std.proofs.lemmas.Bool.{cases_lt}
 
 -- what a net with these regions reaches on the first k wires
 pub record AreReached (sides : List SideWeight) (regions : List (List Strip)) (k : ℕ) (on : List Reach) (bounds : Rect) : Type 0 where
@@ -22,9 +24,6 @@ pub record AreReached (sides : List SideWeight) (regions : List (List Strip)) (k
 
 pub reached_none : (sides : List SideWeight) (regions : List (List Strip)) (on : List Reach) (bounds : Rect) → on ≡ [] → AreReached sides regions 0 on bounds
 reached_none sides regions on bounds e = record { each = ap (λ xs. length xs) e; at = λ wire lt. absurd (omega (arith, lt)); held = λ wire lt. absurd (omega (arith, lt)) }
-
-last_or_before : (j k : ℕ) → j < k + 1 → (j < k) ⊎ (j ≡ k)
-last_or_before j k lt = grind arith
 
 all_wider : (new old : Rect) (placements : List (List Strip)) → Holds new old → HoldsAll old placements → HoldsAll new placements
 all_wider new old placements h held = record { each = λ k. wider old new (placements_at placements k) h (held.each k) }
@@ -48,16 +47,13 @@ reached_more sides regions k old new b0 b1 rect r so_far first second held here 
       ];
     })
 
-in_or_past : (j n : ℕ) → (j < n) ⊎ (n ≤ j)
-in_or_past j n = grind arith
-
 nothing_held : (bounds : Rect) → HoldsAll bounds []
 nothing_held bounds = record { each = λ k. strips_none bounds }
 
 -- also on wires that there are none of
 pub reached_held : (sides : List SideWeight) (regions : List (List Strip)) (k : ℕ) (on : List Reach) (bounds : Rect) → AreReached sides regions k on bounds → (wire : ℕ)
     → HoldsAll bounds (reach_at on wire).placements
-reached_held sides regions k on bounds h wire = elim (in_or_past wire (length on)) [
+reached_held sides regions k on bounds h wire = elim (cases_lt wire (length on)) [
   | inl lt ↦ h.held wire (omega (arith, lt, h.each))
   | inr past ↦ subst (λ q. HoldsAll bounds q.placements) (sym (get_or_past on wire no_reach past)) (nothing_held bounds)
 ]

@@ -9,11 +9,12 @@ use Rattle.plane_geom.proofs.Counting.{count_cells_agree}
 use Rattle.mask_region.specs.declared.strips.Strip.{Strip}
 use Rattle.mask_region.specs.Strips.{is_in}
 use Rattle.defect_sweep.specs.declared.sides.SideWeight.{SideWeight}
-use Rattle.defect_sweep.specs.Counting.{weighted, placements_on_both, region_at, count_on, count_of, counts_of, pair_of, listed, Count}
+use Rattle.defect_sweep.specs.Counting.{weighted, placements_on_both, region_at, count_on, count_of, counts_of, pair_of, listed, BridgeCount}
 use Rattle.defect_sweep.specs.Sides.{no_side, side_at}
 use Rattle.defect_sweep.specs.Reaching.{Reaches, placements_at, ArePlacements, side_meets, meets, reach_at, AreReachesOf, no_reaches, net_at, AreSpread, AreForAll, pair_meets, pair_count, meets_on, row_of}
 use Rattle.defect_sweep.proofs.Listing.{all_range, sum_agree, sum_places, listed_agree, row, row_more, row_up, rows, rows_more, rows_up}
 use Rattle.defect_sweep.proofs.Meeting.{sum_zero}
+use Rattle.net_trace.proofs.Lists.{last_or_before}
 
 -- ---- net by net
 
@@ -24,9 +25,6 @@ pub record AreSpreadTo (sides : List SideWeight) (wires : ℕ) (regions : List (
 
 pub spread_none : (sides : List SideWeight) (wires : ℕ) (regions : List (List Strip)) (nets : List Reaches) → nets ≡ [] → AreSpreadTo sides wires regions 0 nets
 spread_none sides wires regions nets e = record { each = ap (λ xs. length xs) e; at = λ net lt. absurd (omega (arith, lt)) }
-
-last_or_before : (j k : ℕ) → j < k + 1 → (j < k) ⊎ (j ≡ k)
-last_or_before j k lt = grind arith
 
 pub spread_more : (sides : List SideWeight) (wires : ℕ) (regions : List (List Strip)) (k : ℕ) (old new : List Reaches) (r : Reaches) → AreSpreadTo sides wires regions k old
     → AreReachesOf sides wires (region_at wires regions k) r.on → new ≡ old ++ r ∷ [] → AreSpreadTo sides wires regions (k + 1) new
@@ -86,7 +84,7 @@ all_counts sides count wires regions nets h each =
     ((h.at a (omega (arith, before, within, each))).at wire lt) ((h.at b (omega (arith, within, each))).at wire lt))
 
 -- the nets that the code reads
-pub count_is : (sides : List SideWeight) (wires : ℕ) (nets : List Reaches) (a b : ℕ) (p q : Reaches) (count : Count) → AreForAll sides wires nets → a < length nets → b < length nets
+pub count_is : (sides : List SideWeight) (wires : ℕ) (nets : List Reaches) (a b : ℕ) (p q : Reaches) (count : BridgeCount) → AreForAll sides wires nets → a < length nets → b < length nets
     → p ≡ get_or nets a p → q ≡ get_or nets b q → count ≡ count_of (length p.on) (pair_of a b) (meets_on sides p q) → count ≡ pair_count sides wires nets (pair_of a b)
 count_is sides wires nets a b p q count h lt_a lt_b ep eq e =
     let pa : p ≡ net_at nets a = get_or_read nets a p lt_a ep no_reaches in
@@ -104,17 +102,17 @@ module _ (sides : List SideWeight) (wires : ℕ) (nets : List Reaches) where
       let next : (b + 1) - (a + 1) ≡ (b - (a + 1)) + 1 = omega (arith, le) in
       ap (λ n. row (λ pair. pair_count sides wires nets pair) a n) next ∙ row_more (λ pair. pair_count sides wires nets pair) a (b - (a + 1)) b (omega (arith, le))
 
-  pub push_step : (old found new : List Count) (a b : ℕ) (count : Count) → a + 1 ≤ b → found ≡ old ++ row (λ pair. pair_count sides wires nets pair) a (b - (a + 1)) → count ≡ pair_count sides wires nets (pair_of a b)
+  pub push_step : (old found new : List BridgeCount) (a b : ℕ) (count : BridgeCount) → a + 1 ≤ b → found ≡ old ++ row (λ pair. pair_count sides wires nets pair) a (b - (a + 1)) → count ≡ pair_count sides wires nets (pair_of a b)
       → new ≡ found ++ listed (count ∷ []) → new ≡ old ++ row (λ pair. pair_count sides wires nets pair) a ((b + 1) - (a + 1))
   push_step old found new a b count le so_far is e =
       e ∙ (λ i. so_far i ++ listed (is i ∷ []))
       ∙ append_assoc old (row (λ pair. pair_count sides wires nets pair) a (b - (a + 1))) (listed (pair_count sides wires nets (pair_of a b) ∷ []))
       ∙ ap (λ xs. old ++ xs) (sym (step_at a b le))
 
-  none_listed : (count : Count) → count.total ≡ 0 → listed (count ∷ []) ≡ []
+  none_listed : (count : BridgeCount) → count.total ≡ 0 → listed (count ∷ []) ≡ []
   none_listed count e = ap (λ n. cond (nat_lt 0 n) (count ∷ []) []) e
 
-  pub skip_step : (old found : List Count) (a b : ℕ) (p q : Reaches) → a + 1 ≤ b → a < length nets → b < length nets → p ≡ get_or nets a p → q ≡ get_or nets b q → ((s : List SideWeight) (wire : ℕ) → meets_on s p q wire ≡ 0)
+  pub skip_step : (old found : List BridgeCount) (a b : ℕ) (p q : Reaches) → a + 1 ≤ b → a < length nets → b < length nets → p ≡ get_or nets a p → q ≡ get_or nets b q → ((s : List SideWeight) (wire : ℕ) → meets_on s p q wire ≡ 0)
       → found ≡ old ++ row (λ pair. pair_count sides wires nets pair) a (b - (a + 1)) → found ≡ old ++ row (λ pair. pair_count sides wires nets pair) a ((b + 1) - (a + 1))
   skip_step old found a b p q le lt_a lt_b ep eq none so_far =
       let pa : p ≡ net_at nets a = get_or_read nets a p lt_a ep no_reaches in
@@ -126,7 +124,7 @@ module _ (sides : List SideWeight) (wires : ℕ) (nets : List Reaches) where
       ∙ ap (λ xs. row (λ pair. pair_count sides wires nets pair) a (b - (a + 1)) ++ xs) (sym (none_listed (pair_count sides wires nets (pair_of a b)) total))
       ∙ sym (step_at a b le))
 
-  pub too_many : (old found : List Count) (a b : ℕ) (count : Count) → a + 1 ≤ b → b < length nets → found ≡ old ++ row (λ pair. pair_count sides wires nets pair) a (b - (a + 1))
+  pub too_many : (old found : List BridgeCount) (a b : ℕ) (count : BridgeCount) → a + 1 ≤ b → b < length nets → found ≡ old ++ row (λ pair. pair_count sides wires nets pair) a (b - (a + 1))
       → count ≡ pair_count sides wires nets (pair_of a b) → 65536 < length (found ++ listed (count ∷ [])) → 65536 < length (old ++ row_of sides wires nets a)
   too_many old found a b count le lt so_far is many =
       let whole = push_step old found (found ++ listed (count ∷ [])) a b count le so_far is refl in
@@ -139,17 +137,17 @@ module _ (sides : List SideWeight) (wires : ℕ) (nets : List Reaches) where
         row_up (λ pair. pair_count sides wires nets pair) a ((b + 1) - (a + 1)) (length nets - (a + 1)) (omega (arith, lt)),
       )
 
-  pub row_whole : (old found : List Count) (a b : ℕ) → a < length nets → length nets ≤ b → b ≤ length nets → found ≡ old ++ row (λ pair. pair_count sides wires nets pair) a (b - (a + 1))
+  pub row_whole : (old found : List BridgeCount) (a b : ℕ) → a < length nets → length nets ≤ b → b ≤ length nets → found ≡ old ++ row (λ pair. pair_count sides wires nets pair) a (b - (a + 1))
       → found ≡ old ++ row_of sides wires nets a
   row_whole old found a b lt le ge so_far =
       let same : b ≡ length nets = omega (arith, le, ge) in
       so_far ∙ ap (λ n. old ++ row (λ pair. pair_count sides wires nets pair) a (n - (a + 1))) same
 
-  pub rows_step : (found new : List Count) (a : ℕ) → found ≡ rows (λ pair. pair_count sides wires nets pair) (length nets) a → new ≡ found ++ row_of sides wires nets a
+  pub rows_step : (found new : List BridgeCount) (a : ℕ) → found ≡ rows (λ pair. pair_count sides wires nets pair) (length nets) a → new ≡ found ++ row_of sides wires nets a
       → new ≡ rows (λ pair. pair_count sides wires nets pair) (length nets) (a + 1)
   rows_step found new a so_far e = e ∙ ap (λ xs. xs ++ row_of sides wires nets a) so_far ∙ sym (rows_more (λ pair. pair_count sides wires nets pair) (length nets) a)
 
-  pub rows_too_many : (found : List Count) (a : ℕ) → a < length nets → found ≡ rows (λ pair. pair_count sides wires nets pair) (length nets) a → 65536 < length (found ++ row_of sides wires nets a)
+  pub rows_too_many : (found : List BridgeCount) (a : ℕ) → a < length nets → found ≡ rows (λ pair. pair_count sides wires nets pair) (length nets) a → 65536 < length (found ++ row_of sides wires nets a)
       → 65536 < length (rows (λ pair. pair_count sides wires nets pair) (length nets) (length nets))
   rows_too_many found a lt so_far many =
       omega (arith, many, ap length (rows_step found (found ++ row_of sides wires nets a) a so_far refl), rows_up (λ pair. pair_count sides wires nets pair) (length nets) (a + 1) (length nets) (omega (arith, lt)))
@@ -159,16 +157,16 @@ for_slice sides wires regions nets slice h e = subst (λ ns. AreForAll sides wir
 
 -- ---- the whole list
 
-pub row_slice : (sides : List SideWeight) (wires : ℕ) (nets slice : List Reaches) (a : ℕ) (found new : List Count) → slice ≡ nets → new ≡ found ++ row_of sides wires slice a → new ≡ found ++ row_of sides wires nets a
+pub row_slice : (sides : List SideWeight) (wires : ℕ) (nets slice : List Reaches) (a : ℕ) (found new : List BridgeCount) → slice ≡ nets → new ≡ found ++ row_of sides wires slice a → new ≡ found ++ row_of sides wires nets a
 row_slice sides wires nets slice a found new e is = is ∙ ap (λ ns. found ++ row_of sides wires ns a) e
 
-pub counts_end : (sides : List SideWeight) (wires : ℕ) (regions : List (List Strip)) (nets : List Reaches) (found : List Count) (count a : ℕ) → AreSpread sides wires regions nets → length nets ≡ count
+pub counts_end : (sides : List SideWeight) (wires : ℕ) (regions : List (List Strip)) (nets : List Reaches) (found : List BridgeCount) (count a : ℕ) → AreSpread sides wires regions nets → length nets ≡ count
     → count ≤ a → a ≤ count → found ≡ rows (λ pair. pair_count sides wires nets pair) (length nets) a → found ≡ counts_of sides count wires regions
 counts_end sides wires regions nets found count a h each le ge so_far =
     let same : a ≡ count = omega (arith, le, ge) in
     so_far ∙ (λ i. rows (λ pair. pair_count sides wires nets pair) (each i) (same i)) ∙ all_counts sides count wires regions nets h each
 
-pub counts_many : (sides : List SideWeight) (wires : ℕ) (regions : List (List Strip)) (nets slice : List Reaches) (found : List Count) (count a : ℕ) → AreSpread sides wires regions nets → length nets ≡ count
+pub counts_many : (sides : List SideWeight) (wires : ℕ) (regions : List (List Strip)) (nets slice : List Reaches) (found : List BridgeCount) (count a : ℕ) → AreSpread sides wires regions nets → length nets ≡ count
     → a < count → slice ≡ nets → found ≡ rows (λ pair. pair_count sides wires nets pair) (length nets) a → 65536 < length (found ++ row_of sides wires slice a)
     → 65536 < length (counts_of sides count wires regions)
 counts_many sides wires regions nets slice found count a h each lt e so_far many =

@@ -21,13 +21,13 @@ weighted sides a b = sum_by (λ s. s.weight * placements_on_both s.cells a b) si
 -- ---- the list of pairs, by their counts on each wire
 
 -- the count of a pair of nets: on each wire where it is above 0, in the order of the wires, and in all
-pub record Count : Type 0 where
+pub record BridgeCount : Type 0 where
   pub pair : Pair
   pub total : ℕ
   pub on : List (WireId × ℕ)
 
 -- the count of a pair, by the numbers on each of so many wires
-abbrev pub count_of : ℕ → Pair → (ℕ → ℕ) → Count
+abbrev pub count_of : ℕ → Pair → (ℕ → ℕ) → BridgeCount
 count_of wires pair on = record {
   pair = pair;
   total = sum_by on (range_with_len 0 wires);
@@ -46,7 +46,7 @@ abbrev pub pairs_below : ℕ → List Pair
 pairs_below nets = flat_map (λ a. pairs_with nets a) (range_with_len 0 nets)
 
 -- the pairs with a total above 0
-abbrev pub listed : List Count → List Count
+abbrev pub listed : List BridgeCount → List BridgeCount
 listed counts = filter (λ c. nat_lt 0 c.total) counts
 
 -- ---- nets by their regions
@@ -60,5 +60,5 @@ abbrev pub count_on : List SideWeight → ℕ → List (List Strip) → Pair →
 count_on sides wires regions pair wire = weighted sides (is_in (region_at wires regions pair.a.0 wire)) (is_in (region_at wires regions pair.b.0 wire))
 
 -- The pairs of nets that some placement meets on a wire, in order, with their counts.
-abbrev pub counts_of : List SideWeight → ℕ → ℕ → List (List Strip) → List Count
+abbrev pub counts_of : List SideWeight → ℕ → ℕ → List (List Strip) → List BridgeCount
 counts_of sides nets wires regions = listed (map (λ pair. count_of wires pair (count_on sides wires regions pair)) (pairs_below nets))

@@ -10,7 +10,7 @@ use Rattle.mask_region.specs.Strips.{is_in, is_in_strip, IsCellWithin}
 use Rattle.defect_sweep.specs.declared.pairs.Pair.{Pair}
 use Rattle.defect_sweep.specs.declared.sides.SideWeight.{SideWeight}
 use Rattle.defect_sweep.specs.Sides.{side_at}
-use Rattle.defect_sweep.specs.Counting.{Count, count_of, listed, pairs_with, region_at}
+use Rattle.defect_sweep.specs.Counting.{BridgeCount, count_of, listed, pairs_with, region_at}
 
 -- ---- rectangles
 
@@ -124,9 +124,9 @@ pub record AreForAll (sides : List SideWeight) (wires : ℕ) (nets : List Reache
   pub sided : (net : ℕ) → net < length nets → AreForSides sides (net_at nets net).on
 
 -- the count of a pair, by what its nets reach
-abbrev pub pair_count : List SideWeight → ℕ → List Reaches → Pair → Count
+abbrev pub pair_count : List SideWeight → ℕ → List Reaches → Pair → BridgeCount
 pair_count sides wires nets pair = count_of wires pair (pair_meets sides nets pair)
 
 -- the counts above 0 of a net with each later net
-abbrev pub row_of : List SideWeight → ℕ → List Reaches → ℕ → List Count
+abbrev pub row_of : List SideWeight → ℕ → List Reaches → ℕ → List BridgeCount
 row_of sides wires nets a = listed (map (λ pair. pair_count sides wires nets pair) (pairs_with (length nets) a))

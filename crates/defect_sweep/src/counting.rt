@@ -14,7 +14,8 @@ use std::alloc::Global;
 /// The pairs of nets that some placement of a square of these sides meets on a wire, in the order of the pairs, with their
 /// counts, by the definition `AreCounts`. There are 1 to 8 sides, which rise.
 ///
-/// `TooManyBridges` comes exactly where there are more than 65,536 such pairs.
+/// `TooManyBridges` comes exactly where there are more than 65,536 such pairs, but for a want of memory, where
+/// `NoMemory` comes.
 pub fn counts(
     alloc: Global,
     traced: &Traced,

@@ -7,15 +7,15 @@ ghost use Rattle.net_trace.specs.Touching.{Nets};
 ghost use Rattle.net_trace.specs.Nets.{AreRegionsOf, IsNetCount};
 ghost use Rattle.defect_sweep.specs.declared.sides.SideWeight.{SideWeight};
 ghost use Rattle.defect_sweep.specs.Sides.{AreSides};
-ghost use Rattle.defect_sweep.specs.Counting.{Count, counts_of};
+ghost use Rattle.defect_sweep.specs.Counting.{BridgeCount, counts_of};
 ghost use Rattle.defect_sweep.specs.Bridges.{AreCounts, HasManyBridges, IsFitting};
 
 /// Nets have one list of counts, whichever strips their regions are kept as. So they have too many bridges exactly where
 /// that list is too long.
 pub fn one_counting()
-    ensures counts { (nets : Nets) (sides : List SideWeight) (counts others : List Count) → AreCounts nets sides counts → AreCounts nets sides others
+    ensures counts { (nets : Nets) (sides : List SideWeight) (counts others : List BridgeCount) → AreCounts nets sides counts → AreCounts nets sides others
         → counts ≡ others }
-    ensures many { (nets : Nets) (sides : List SideWeight) (counts : List Count) → AreCounts nets sides counts → HasManyBridges nets sides
+    ensures many { (nets : Nets) (sides : List SideWeight) (counts : List BridgeCount) → AreCounts nets sides counts → HasManyBridges nets sides
         → 65536 < length counts }
 {}
 

@@ -14,7 +14,7 @@ pub struct Pair {
     pub b: NetId,
 }
 
-/// How many placements meet both nets of a pair: in all, and on each wire. Contracts see it as a `Count`.
+/// How many placements meet both nets of a pair: in all, and on each wire. Contracts see it as a `BridgeCount`.
 #[derive(Debug, Drop)]
 pub struct PairCount {
     pair: Pair,
@@ -23,9 +23,9 @@ pub struct PairCount {
 }
 
 impl Model for PairCount {
-    ghost use Rattle.defect_sweep.specs.Counting.{Count};
+    ghost use Rattle.defect_sweep.specs.Counting.{BridgeCount};
 
-    ghost Value = { Count };
+    ghost Value = { BridgeCount };
 
     ghost view = { λ c. record { pair = c.pair; total = c.total; on = c.on.items } };
 }
@@ -68,9 +68,9 @@ pub struct CountList {
 
 impl Model for CountList {
     ghost use Rattle.std.specs.Prelude.{List};
-    ghost use Rattle.defect_sweep.specs.Counting.{Count};
+    ghost use Rattle.defect_sweep.specs.Counting.{BridgeCount};
 
-    ghost Value = { List Count };
+    ghost Value = { List BridgeCount };
 
     ghost view = { λ c. c.list.items };
 }

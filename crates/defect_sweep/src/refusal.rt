@@ -7,6 +7,7 @@ use std::alloc::AllocError;
 pub enum SweepRefusal {
     /// More than 65,536 pairs of nets have a placement that meets both.
     TooManyBridges,
+    /// No memory was found. This says nothing of the layout.
     NoMemory,
 }
 

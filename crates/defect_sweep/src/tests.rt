@@ -1,3 +1,5 @@
+//! Counts of small layouts.
+
 ghost use Rattle.std.specs.Prelude.{◌^◌, IfOk};
 ghost use Rattle.std.specs.List.{All};
 ghost use Rattle.plane_geom.specs.Bounds.{IsRectWithin};

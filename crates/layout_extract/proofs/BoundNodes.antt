@@ -17,41 +17,35 @@ use Rattle.link_classes.proofs.Chains.{linked_map, linked_touch}
 use Rattle.net_trace.specs.declared.node.Node.{Node}
 use Rattle.net_trace.specs.Touching.{Nets, has_node, is_node, touches}
 use Rattle.net_trace.specs.Nets.{is_link, is_joined, IsNetNumber, node_at}
-use Rattle.layout_extract.specs.Labels.{cells_round, is_round, is_near, tried_wires, wire_of, is_shallow, is_wire, is_bound_at, IsAmbiguous}
+use Rattle.layout_extract.specs.Labels.{cells_round, is_round, is_near, tried_wires, label_wire, is_shallow, is_wire, is_bound_at, IsAmbiguous}
 use Rattle.layout_extract.specs.Binding.{HasNodeIn, HasNoNodeIn, AreOneNet, AreTwoNets, IsBoundTo, HasWire}
 use Rattle.layout_extract.proofs.Places.{place_of, any_at, find_map, found_passes}
 use Rattle.net_trace.proofs.NetNumbers.{net_one, net_links}
-
--- what touches is linked
-pub touch_link : (nets : Nets) (a b : Node) → touches nets a b ≡ true → is_link nets a b ≡ true
-touch_link nets a b is = or_left (touches nets a b) ((is_node nets a && is_node nets b) && is_joined nets.joins a b) is
-
-pub touch_linked : (nets : Nets) (a b : Node) → Linked (touches nets) a b → Linked (is_link nets) a b
-touch_linked nets a b linked = linked_map (touches nets) (is_link nets) (λ x. x) (λ c d is. linked_touch (is_link nets) c d (touch_link nets c d is)) a b linked
+use Rattle.net_trace.proofs.TracedNets.{touch_linked}
 
 pub shallow_from : (m : Mark) → m.depth < 2 → is_shallow m ≡ true
 shallow_from m lt = grind (arith, nat_tests, lt)
 
 module _ (nets : Nets) (plan : Plan) (m : Mark) where
   -- the wire is the first that has a node near the point
-  pub wire_is : (wires : List WireId) (found : Option WireId) → numbers_seen wires ≡ tried_wires plan m.layer → found ≡ find (λ w. is_near nets m.at w.0) wires → wire_of nets plan m ≡ option_map (λ w. w.0) found
+  pub wire_is : (wires : List WireId) (found : Option WireId) → numbers_seen wires ≡ tried_wires plan m.layer → found ≡ find (λ w. is_near nets m.at w.0) wires → label_wire nets plan m ≡ option_map (λ w. w.0) found
   wire_is wires found seen is = ap (λ ws. find (is_near nets m.at) ws) (sym seen) ∙ find_map (is_near nets m.at) (λ (w : WireId). w.0) wires ∙ ap (λ o. option_map (λ (w : WireId). w.0) o) (sym is)
 
-  module _ (wire : ℕ) (is : wire_of nets plan m ≡ Some wire) (shallow : is_shallow m ≡ true) where
-    own_wire : is_wire (wire_of nets plan m) wire ≡ true
+  module _ (wire : ℕ) (is : label_wire nets plan m ≡ Some wire) (shallow : is_shallow m ≡ true) where
+    own_wire : is_wire (label_wire nets plan m) wire ≡ true
     own_wire = subst (λ o. is_wire o wire ≡ true) (sym is) ((Decides-eqb wire wire).1 refl)
 
     pub bound_cell : (k : ℕ) (c : Point) → slice_get (cells_round m.at) k ≡ Some c → has_node nets wire c.x c.y ≡ true → is_bound_at nets plan m (node_at wire c.x c.y) ≡ true
     bound_cell k c at has =
         let here = and_from (int_eq c.x c.x) (int_eq c.y c.y) ((Decides-int_eq c.x c.x).1 refl) ((Decides-int_eq c.y c.y).1 refl) in
         let round = any_at (λ (d : Point). int_eq d.x c.x && int_eq d.y c.y) (cells_round m.at) k c at here in
-        and_from (is_shallow m && is_wire (wire_of nets plan m) wire) (is_round m.at c.x c.y && has_node nets wire c.x c.y)
-        (and_from (is_shallow m) (is_wire (wire_of nets plan m) wire) shallow own_wire) (and_from (is_round m.at c.x c.y) (has_node nets wire c.x c.y) round has)
+        and_from (is_shallow m && is_wire (label_wire nets plan m) wire) (is_round m.at c.x c.y && has_node nets wire c.x c.y)
+        (and_from (is_shallow m) (is_wire (label_wire nets plan m) wire) shallow own_wire) (and_from (is_round m.at c.x c.y) (has_node nets wire c.x c.y) round has)
 
     pub bound_back : (a : Node) → is_bound_at nets plan m a ≡ true → (k : ℕ) × (c : Point) × (slice_get (cells_round m.at) k ≡ Some c) × (a ≡ node_at wire c.x c.y) × (has_node nets wire c.x c.y ≡ true)
     bound_back a bound =
-        let (front, back) = and_parts (is_shallow m && is_wire (wire_of nets plan m) a.wire) (is_round m.at a.x a.y && is_node nets a) bound in
-        let (low, on) = and_parts (is_shallow m) (is_wire (wire_of nets plan m) a.wire) front in
+        let (front, back) = and_parts (is_shallow m && is_wire (label_wire nets plan m) a.wire) (is_round m.at a.x a.y && is_node nets a) bound in
+        let (low, on) = and_parts (is_shallow m) (is_wire (label_wire nets plan m) a.wire) front in
         let (round, node) = and_parts (is_round m.at a.x a.y) (is_node nets a) back in
         let (k, c, at, here) = place_of (λ (d : Point). int_eq d.x a.x && int_eq d.y a.y) (cells_round m.at) round in
         let (x_is, y_is) = and_parts (int_eq c.x a.x) (int_eq c.y a.y) here in

@@ -13,7 +13,7 @@ use Rattle.net_trace.specs.Nets.{is_joined, is_link, node_at}
 use Rattle.layout_extract.specs.declared.bindings.Binding.{Binding}
 use Rattle.layout_extract.specs.declared.bindings.Binding.TheVariants.{Deep, Unbound, Ambiguous, Bound}
 use Rattle.layout_extract.specs.declared.tags.Spot.{Spot}
-use Rattle.layout_extract.specs.Labels.{wire_of, is_shallow, is_wire, is_round, is_bound_at, IsAmbiguous, AreClear, IsFirstAmbiguous}
+use Rattle.layout_extract.specs.Labels.{label_wire, is_shallow, is_wire, is_round, is_bound_at, IsAmbiguous, AreClear, IsFirstAmbiguous}
 use Rattle.layout_extract.specs.Binding.{IsBinding}
 use Rattle.layout_extract.specs.Tags.{HasNoAmbiguous, HasAmbiguousAt, AreSpotsOf, HasNode}
 use Rattle.layout_extract.proofs.Places.{one_at, zip_left}
@@ -35,15 +35,15 @@ spot_node s = node_at s.wire.0 s.cell.x s.cell.y
 
 module _ (nets : Nets) (plan : Plan) where
   bound_shallow : (m : Mark) (a : Node) → is_bound_at nets plan m a ≡ true → is_shallow m ≡ true
-  bound_shallow m a bound = (and_parts (is_shallow m) (is_wire (wire_of nets plan m) a.wire) (and_parts (is_shallow m && is_wire (wire_of nets plan m) a.wire) (is_round m.at a.x a.y && is_node nets a) bound).0).0
+  bound_shallow m a bound = (and_parts (is_shallow m) (is_wire (label_wire nets plan m) a.wire) (and_parts (is_shallow m && is_wire (label_wire nets plan m) a.wire) (is_round m.at a.x a.y && is_node nets a) bound).0).0
 
-  bound_wire : {P : Type 0} (m : Mark) (a : Node) → is_bound_at nets plan m a ≡ true → wire_of nets plan m ≡ None → P
+  bound_wire : {P : Type 0} (m : Mark) (a : Node) → is_bound_at nets plan m a ≡ true → label_wire nets plan m ≡ None → P
   bound_wire m a bound none =
-      let on = (and_parts (is_shallow m) (is_wire (wire_of nets plan m) a.wire) (and_parts (is_shallow m && is_wire (wire_of nets plan m) a.wire) (is_round m.at a.x a.y && is_node nets a) bound).0).1 in
-      absurd (both_ways (is_wire (wire_of nets plan m) a.wire) (ap (λ o. is_wire o a.wire) none) on)
+      let on = (and_parts (is_shallow m) (is_wire (label_wire nets plan m) a.wire) (and_parts (is_shallow m && is_wire (label_wire nets plan m) a.wire) (is_round m.at a.x a.y && is_node nets a) bound).0).1 in
+      absurd (both_ways (is_wire (label_wire nets plan m) a.wire) (ap (λ o. is_wire o a.wire) none) on)
 
   bound_node : (m : Mark) (a : Node) → is_bound_at nets plan m a ≡ true → is_node nets a ≡ true
-  bound_node m a bound = (and_parts (is_round m.at a.x a.y) (is_node nets a) (and_parts (is_shallow m && is_wire (wire_of nets plan m) a.wire) (is_round m.at a.x a.y && is_node nets a) bound).1).1
+  bound_node m a bound = (and_parts (is_round m.at a.x a.y) (is_node nets a) (and_parts (is_shallow m && is_wire (label_wire nets plan m) a.wire) (is_round m.at a.x a.y && is_node nets a) bound).1).1
 
   ambiguous_only : nets.joins ≡ [] → (m : Mark) (b : Binding) → IsBinding nets plan m b → IsAmbiguous nets plan m → b ≡ Ambiguous
   ambiguous_only none m Deep is two = absurd (both_ways (is_shallow m) is (bound_shallow m two.a two.at_a))

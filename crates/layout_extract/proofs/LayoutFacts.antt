@@ -25,21 +25,14 @@ use Rattle.layout_extract.specs.Tags.{is_bound, is_unbound, is_deep, HasNoAmbigu
 use Rattle.layout_extract.proofs.Bridge.{are_clear, first_is, spot_bound, bound_spot}
 use Rattle.layout_extract.proofs.CountLists.{bound_counted, unbound_counted, deep_counted}
 use Rattle.layout_extract.proofs.NetBridge.{AreSpotted, joined_as, names_are}
+use Rattle.mask_region.proofs.Areas.{count_by_length}
 
 -- one mask for each line
 pub masks_size : {A : Type 0} (draws : List Draw) (formula : A → Formula) (lines : List A) (regions : List (List Strip)) → AreMasks draws (map formula lines) regions → length regions ≡ length lines
 masks_size draws formula lines regions h = AllZip-long (IsMask draws) (map formula lines) regions h.each ∙ length-map lines formula
 
-pub count_within : {A : Type 0} (test : A → Bool) (xs : List A) → count_by test xs ≤ length xs
-count_within test [] = omega arith
-count_within test (x ∷ xs) = by_test (test x) (count_by test (x ∷ xs)) (count_by test xs) (length xs) (count_cons test x xs) (count_within test xs)
-  where
-    by_test : (b : Bool) (n m l : ℕ) → n ≡ cond b 1 0 + m → m ≤ l → n ≤ suc l
-    by_test true n m l is le = omega (arith, is, le)
-    by_test false n m l is le = omega (arith, is, le)
-
 pub cast_fits : {A : Type 0} (test : A → Bool) (xs : List A) (marks : List Mark) (most n : ℕ) → n ≡ count_by test xs → length xs ≡ length marks → length marks < most → n < most
-cast_fits test xs marks most n is size few = let within = count_within test xs in omega (arith, is, size, few, within)
+cast_fits test xs marks most n is size few = let within = count_by_length test xs in omega (arith, is, size, few, within)
 
 -- what the steps know
 pub record AreSteps (plan : Plan) (nets : Nets) (marks : List Mark) (bindings : List Binding) : Type 0 where

@@ -13,7 +13,8 @@ use Rattle.std.proofs.lemmas.Cmp.{nat_list_cmp_total}
 use Rattle.std.proofs.lemmas.List.MinMax.{ranks_by}
 use Rattle.layout_extract.specs.declared.tags.Tag.{Tag}
 use Rattle.layout_extract.specs.Tags.{HasLeastName, IsLeast, lesser_name, IsNameBy, name_or}
-use Rattle.layout_extract.proofs.Places.{one_at, last_or, push_cases}
+use Rattle.layout_extract.proofs.Places.{one_at, push_cases}
+use Rattle.net_trace.proofs.Lists.{last_or_before}
 
 -- no name comes before it, in the words of both tests
 abbrev compare : List ℕ → List ℕ → Ordering
@@ -55,7 +56,7 @@ module _ (tags : List Tag) (i : ℕ) (t : Tag) (at : slice_get tags i ≡ Some t
   -- a tag of another net
   pub least_same : (net : ℕ) (first : Option (List ℕ)) → (t.net.0 ≡ net → ⊥) → IsLeast tags i net first → IsLeast tags (i + 1) net first
   least_same net None other h = record {
-    none = λ j s lt at_j of. elim (last_or j i lt) [
+    none = λ j s lt at_j of. elim (last_or_before j i lt) [
       | inl less ↦ h.none j s less at_j of
       | inr same ↦ other (ap (λ (u : Tag). u.net.0) (one_at tags i j t s (sym same) at at_j) ∙ of)
     ];
@@ -67,7 +68,7 @@ module _ (tags : List Tag) (i : ℕ) (t : Tag) (at : slice_get tags i ≡ Some t
     at = h.at;
     is = h.is;
     of_net = h.of_net;
-    least = λ j s lt at_j of. elim (last_or j i lt) [
+    least = λ j s lt at_j of. elim (last_or_before j i lt) [
       | inl less ↦ h.least j s less at_j of
       | inr same ↦ absurd (other (ap (λ (u : Tag). u.net.0) (one_at tags i j t s (sym same) at at_j) ∙ of))
     ];
@@ -81,7 +82,7 @@ module _ (tags : List Tag) (i : ℕ) (t : Tag) (at : slice_get tags i ≡ Some t
     at = at;
     is = refl;
     of_net = of;
-    least = λ j s lt at_j of_s. elim (last_or j i lt) [
+    least = λ j s lt at_j of_s. elim (last_or_before j i lt) [
       | inl less ↦ least j s less at_j of_s
       | inr same ↦ subst (λ (u : Tag). is_le (compare t.name.now u.name.now) ≡ true) (one_at tags i j t s (sym same) at at_j) (le_self t.name.now)
     ];
@@ -96,7 +97,7 @@ module _ (tags : List Tag) (i : ℕ) (t : Tag) (at : slice_get tags i ≡ Some t
     at = h.at;
     is = h.is;
     of_net = h.of_net;
-    least = λ j s lt at_j of_s. elim (last_or j i lt) [
+    least = λ j s lt at_j of_s. elim (last_or_before j i lt) [
       | inl less ↦ h.least j s less at_j of_s
       | inr same ↦ subst (λ (u : Tag). is_le (compare first u.name.now) ≡ true) (one_at tags i j t s (sym same) at at_j) (not_before first t.name.now more)
     ];

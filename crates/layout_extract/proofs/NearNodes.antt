@@ -9,7 +9,8 @@ use Rattle.net_trace.specs.Nets.{IsNetNumber, node_at}
 use Rattle.layout_extract.specs.declared.around.Near.{Near}
 use Rattle.layout_extract.specs.declared.around.Near.TheVariants.{Nothing, One, Two}
 use Rattle.layout_extract.specs.Binding.{HasNodeIn, HasNoNodeIn, AreOneNet, AreTwoNets, IsAround, more}
-use Rattle.layout_extract.proofs.Places.{one_at, last_or}
+use Rattle.layout_extract.proofs.Places.{one_at}
+use Rattle.net_trace.proofs.Lists.{last_or_before}
 
 module _ (nets : Nets) (wire : ℕ) (cells : List Point) (i : ℕ) (c : Point) (at : slice_get cells i ≡ Some c) where
   later : (cell : Point) (net : ℕ) → HasNodeIn nets wire cells i cell net → HasNodeIn nets wire cells (i + 1) cell net
@@ -20,7 +21,7 @@ module _ (nets : Nets) (wire : ℕ) (cells : List Point) (i : ℕ) (c : Point) (
 
   none_more : has_node nets wire c.x c.y ≡ false → HasNoNodeIn nets wire cells i → HasNoNodeIn nets wire cells (i + 1)
   none_more lacks h = record {
-    none = λ k d lt at_k. elim (last_or k i lt) [
+    none = λ k d lt at_k. elim (last_or_before k i lt) [
       | inl less ↦ h.none k d less at_k
       | inr same ↦ subst (λ (e : Point). has_node nets wire e.x e.y ≡ false) (sym (one_at cells k i d c same at_k at)) lacks
     ];
@@ -28,7 +29,7 @@ module _ (nets : Nets) (wire : ℕ) (cells : List Point) (i : ℕ) (c : Point) (
 
   one_none : (net : ℕ) → has_node nets wire c.x c.y ≡ false → AreOneNet nets wire cells i net → AreOneNet nets wire cells (i + 1) net
   one_none net lacks h = record {
-    each = λ k d lt at_k yes. elim (last_or k i lt) [
+    each = λ k d lt at_k yes. elim (last_or_before k i lt) [
       | inl less ↦ h.each k d less at_k yes
       | inr same ↦ absurd (both_ways (has_node nets wire c.x c.y) lacks (subst (λ (e : Point). has_node nets wire e.x e.y ≡ true) (one_at cells k i d c same at_k at) yes))
     ];
@@ -36,7 +37,7 @@ module _ (nets : Nets) (wire : ℕ) (cells : List Point) (i : ℕ) (c : Point) (
 
   one_more : (net : ℕ) → IsNetNumber nets (node_at wire c.x c.y) net → AreOneNet nets wire cells i net → AreOneNet nets wire cells (i + 1) net
   one_more net number h = record {
-    each = λ k d lt at_k yes. elim (last_or k i lt) [
+    each = λ k d lt at_k yes. elim (last_or_before k i lt) [
       | inl less ↦ h.each k d less at_k yes
       | inr same ↦ subst (λ (e : Point). IsNetNumber nets (node_at wire e.x e.y) net) (sym (one_at cells k i d c same at_k at)) number
     ];
@@ -44,7 +45,7 @@ module _ (nets : Nets) (wire : ℕ) (cells : List Point) (i : ℕ) (c : Point) (
 
   one_new : (net : ℕ) → IsNetNumber nets (node_at wire c.x c.y) net → HasNoNodeIn nets wire cells i → AreOneNet nets wire cells (i + 1) net
   one_new net number h = record {
-    each = λ k d lt at_k yes. elim (last_or k i lt) [
+    each = λ k d lt at_k yes. elim (last_or_before k i lt) [
       | inl less ↦ absurd (both_ways (has_node nets wire d.x d.y) (h.none k d less at_k) yes)
       | inr same ↦ subst (λ (e : Point). IsNetNumber nets (node_at wire e.x e.y) net) (sym (one_at cells k i d c same at_k at)) number
     ];

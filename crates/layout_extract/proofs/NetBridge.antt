@@ -27,8 +27,9 @@ use Rattle.layout_extract.specs.Layouts.{AreJoinedAs, AreNames}
 use Rattle.layout_extract.specs.Tags.{IsTagOf, numbers_of, IsPairOf, AreJoins, IsLeast, name_or, IsNameBy}
 use Rattle.layout_extract.proofs.Places.{any_at, place_of, zip_left, zip_right}
 use Rattle.net_trace.proofs.NetNumbers.{net_one, net_links}
-use Rattle.layout_extract.proofs.BoundNodes.{touch_link}
 use Rattle.layout_extract.proofs.Bridge.{link_touch, spot_node}
+use Rattle.net_trace.proofs.JoinedNets.{same_is, same_self}
+use Rattle.net_trace.proofs.TracedNets.{touch_link}
 
 -- ---- nets with the same wires and cuts
 
@@ -56,19 +57,6 @@ module _ (old new : Node → Bool) (link other : Node → Node → Bool) (nodes 
 
   pub number_by : (a : Node) (n : ℕ) → IsNumber node_cmp new other a n → IsNumber node_cmp old link a n
   number_by a n h = record { roots = h.roots; are = roots_by h.roots h.are; root = h.root; at = h.at; thing = sym (nodes a) ∙ h.thing; linked = sound a h.root h.linked }
-
-same_is : (a b : Node) → is_same a b ≡ true → a ≡ b
-same_is a b h =
-    let (w, xy) = and_parts (a.wire == b.wire) (int_eq a.x b.x && int_eq a.y b.y) h in
-    let (x, y) = and_parts (int_eq a.x b.x) (int_eq a.y b.y) xy in
-    let wire : a.wire ≡ b.wire = (Decides-eqb a.wire b.wire).0 w in
-    let ex : a.x ≡ b.x = (Decides-int_eq a.x b.x).0 x in
-    let ey : a.y ≡ b.y = (Decides-int_eq a.y b.y).0 y in
-    λ i. record { wire = wire i; x = ex i; y = ey i }
-
-same_self : (a : Node) → is_same a a ≡ true
-same_self a = and_from (a.wire == a.wire) (int_eq a.x a.x && int_eq a.y a.y) ((Decides-eqb a.wire a.wire).1 refl)
-    (and_from (int_eq a.x a.x) (int_eq a.y a.y) ((Decides-int_eq a.x a.x).1 refl) ((Decides-int_eq a.y a.y).1 refl))
 
 -- the net of a root, and the root of a net
 root_number : (nets : Nets) (roots : List Node) → AreNetRoots nets roots → (n : ℕ) (r : Node) → slice_get roots n ≡ Some r → IsNetNumber nets r n

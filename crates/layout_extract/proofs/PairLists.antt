@@ -27,7 +27,8 @@ use Rattle.link_classes.specs.Classes.{has_pair}
 use Rattle.link_classes.proofs.Chains.{linked_refl, linked_touch, linked_trans, linked_sym, linked_map}
 use Rattle.layout_extract.specs.declared.tags.Tag.{Tag}
 use Rattle.layout_extract.specs.Tags.{numbers_of, IsPairOf, AreJoins, are_among, AreChained, nets_among, name_order, AreAdjacent}
-use Rattle.layout_extract.proofs.Places.{any_at, one_at, last_or, push_last}
+use Rattle.layout_extract.proofs.Places.{any_at, one_at, push_last}
+use Rattle.net_trace.proofs.Lists.{last_or_before}
 
 -- ---- pairs and what they link
 
@@ -70,7 +71,7 @@ chained_none nets = record {
 
 module _ (nets : List NetId) (pairs : List (NetId × NetId)) (k : ℕ) (x y : NetId) (some : 1 ≤ k) (before : slice_get nets (k - 1) ≡ Some x) (at : slice_get nets k ≡ Some y) (h : AreChained nets k pairs) where
   to_last : (j : ℕ) (m : NetId) → j < k + 1 → slice_get nets j ≡ Some m → Linked (has_pair (numbers_of (pairs ++ (x, y) ∷ []))) m.0 y.0
-  to_last j m lt at_j = elim (last_or j k lt) [
+  to_last j m lt at_j = elim (last_or_before j k lt) [
     | inl less ↦
         let low : k - 1 < k = omega (arith, some) in
         linked_trans (has_pair (numbers_of (pairs ++ (x, y) ∷ []))) m.0 x.0 y.0
@@ -164,7 +165,7 @@ module _ (tags : List Tag) (pairs : List (NetId × NetId)) (k : ℕ) (s t : Tag)
   adjacent_more same = record {
     sound = All-push (IsPairOf bytes_eq tags) pairs (s.net, t.net) h.sound
         (record { j = k - 1; k = k; s = s; t = t; at_j = before; at_k = at; one = refl; other = refl; passes = (bytes_eq-Decides s.name.now t.name.now).1 same });
-    whole = λ i u v lt at_u at_v is. elim (last_or (i + 1) k lt) [
+    whole = λ i u v lt at_u at_v is. elim (last_or_before (i + 1) k lt) [
       | inl less ↦ linked_left pairs ((s.net, t.net) ∷ []) u.net.0 v.net.0 (h.whole i u v less at_u at_v is)
       | inr eq ↦
           let back : i ≡ k - 1 = omega (arith, eq) in
@@ -178,7 +179,7 @@ module _ (tags : List Tag) (pairs : List (NetId × NetId)) (k : ℕ) (s t : Tag)
   pub adjacent_same : (s.name.now ≡ t.name.now → ⊥) → AreAdjacent tags (k + 1) pairs
   adjacent_same apart = record {
     sound = h.sound;
-    whole = λ i u v lt at_u at_v is. elim (last_or (i + 1) k lt) [
+    whole = λ i u v lt at_u at_v is. elim (last_or_before (i + 1) k lt) [
       | inl less ↦ h.whole i u v less at_u at_v is
       | inr eq ↦
           let back : i ≡ k - 1 = omega (arith, eq) in

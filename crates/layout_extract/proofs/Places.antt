@@ -14,13 +14,6 @@ use Rattle.link_classes.proofs.UniqueNumbers.{some_one, no_some}
 pub one_at : {A : Type 0} (xs : List A) (j k : ℕ) (x y : A) → j ≡ k → slice_get xs j ≡ Some x → slice_get xs k ≡ Some y → x ≡ y
 one_at xs j k x y same at_j at_k = some_one x y (sym at_j ∙ ap (λ n. slice_get xs n) same ∙ at_k)
 
-pub last_or : (k i : ℕ) → k < i + 1 → (k < i) ⊎ (k ≡ i)
-last_or k i lt = elim (cases_order k i) [
-  | inl same ↦ inr same
-  | inr (inl less) ↦ inl less
-  | inr (inr more) ↦ absurd (omega (arith, lt, more))
-]
-
 -- an element that passes, and its place
 pub place_of : {A : Type 0} (test : A → Bool) (xs : List A) → list_any test xs ≡ true → (k : ℕ) × (x : A) × (slice_get xs k ≡ Some x) × (test x ≡ true)
 place_of test xs h = let (k, x, lt, is, pass) = Any-from_list_any test xs h in (k, x, slice_get-get_or xs k x lt ∙ ap (λ y. Some y) is, pass)
@@ -67,11 +60,6 @@ found_passes p [] x h = no_some x h
 found_passes p (y ∷ xs) x h = found_by p x y (find p xs) (p y) refl (found_passes p xs x) h
 
 -- ---- one element more at the end
-
-pub push_old : {A : Type 0} (xs ys : List A) (j : ℕ) (x : A) → slice_get xs j ≡ Some x → slice_get (xs ++ ys) j ≡ Some x
-push_old [] ys j x at = no_some x at
-push_old (y ∷ xs) ys zero x at = at
-push_old (y ∷ xs) ys (suc j) x at = push_old xs ys j x at
 
 pub push_last : {A : Type 0} (xs : List A) (x : A) → slice_get (xs ++ x ∷ []) (length xs) ≡ Some x
 push_last [] x = refl

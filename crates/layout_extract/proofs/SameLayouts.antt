@@ -35,7 +35,7 @@ use Rattle.net_trace.specs.Touching.{Nets, Cut as CutCells, traced_nets, is_in_w
 use Rattle.net_trace.specs.Nets.{node_cmp, is_joined, is_link, HasMoreNets}
 use Rattle.layout_extract.specs.declared.refusal.LayoutRefusal.{LayoutRefusal}
 use Rattle.layout_extract.specs.declared.refusal.LayoutRefusal.TheVariants.{Flat, TooManyNets, LabelAmbiguous, NoMemory}
-use Rattle.layout_extract.specs.Labels.{tried_wires, cells_round, is_round, wire_of, is_shallow, is_wire, is_bound_at, IsAmbiguous, IsFirstAmbiguous, count_bound, count_unbound}
+use Rattle.layout_extract.specs.Labels.{tried_wires, cells_round, is_round, label_wire, is_shallow, is_wire, is_bound_at, IsAmbiguous, IsFirstAmbiguous, count_bound, count_unbound}
 use Rattle.layout_extract.specs.Names.{Labelled, is_joining, is_net_link, IsNamedNumber, IsNamedCount, IsBoundName, IsNameOf}
 use Rattle.layout_extract.specs.Same.{AreSameNamed}
 use Rattle.layout_extract.specs.Layouts.{NamedNets, AreLayoutMasks, labelled_by, AreJoinedAs, IsNamed, HasManyPieces, HasAmbiguous, IsNamedFrom, RefusesLayout}
@@ -110,7 +110,7 @@ module _ (draws others : List Draw) (same : map drawn_of draws ≡ map drawn_of 
 -- ---- labels and names on nets with the same nodes
 
 module _ (plan : Plan) (marks : List Mark) (a b : Nets) (nodes : (w : ℕ) (x y : ℤ) → has_node a w x y ≡ has_node b w x y) (touch : (p q : Node) → touches a p q ≡ touches b p q) where
-  wires_alike : (m : Mark) → wire_of a plan m ≡ wire_of b plan m
+  wires_alike : (m : Mark) → label_wire a plan m ≡ label_wire b plan m
   wires_alike m = λ i. find (λ wire. list_any (λ c. nodes wire c.x c.y i) (cells_round m.at)) (tried_wires plan m.layer)
 
   bound_alike : (m : Mark) (p : Node) → is_bound_at a plan m p ≡ is_bound_at b plan m p

@@ -9,7 +9,9 @@ use Rattle.layout_extract.specs.declared.bindings.Binding.{Binding}
 use Rattle.layout_extract.specs.declared.bindings.Binding.TheVariants.{Deep, Unbound, Ambiguous, Bound}
 use Rattle.layout_extract.specs.declared.tags.Spot.{Spot}
 use Rattle.layout_extract.specs.Tags.{HasNoAmbiguous, HasAmbiguousAt, first_with, IsSpotOf, HasSpot, AreSpotsOf}
-use Rattle.layout_extract.proofs.Places.{one_at, last_or, push_old, push_last, push_cases}
+use Rattle.layout_extract.proofs.Places.{one_at, push_last, push_cases}
+use Rattle.net_trace.proofs.Lists.{last_or_before}
+use Rattle.net_trace.proofs.VertexLists.{get_left}
 
 abbrev IsFirst : List Mark → List Binding → ℕ → Option ℕ → Type 0
 IsFirst marks bindings upto first = MatchOption first (HasNoAmbiguous bindings upto) (HasAmbiguousAt marks bindings upto)
@@ -19,7 +21,7 @@ IsFirst marks bindings upto first = MatchOption first (HasNoAmbiguous bindings u
 module _ (marks : List Mark) (bindings : List Binding) (i : ℕ) (m : Mark) (at : slice_get marks i ≡ Some m) where
   still : (b : Binding) → slice_get bindings i ≡ Some b → (b ≡ Ambiguous → ⊥) → (first : Option ℕ) → IsFirst marks bindings i first → IsFirst marks bindings (i + 1) first
   still b is other None h = record {
-    none = λ k lt two. elim (last_or k i lt) [
+    none = λ k lt two. elim (last_or_before k i lt) [
       | inl less ↦ h.none k less two
       | inr same ↦ other (one_at bindings i k b Ambiguous (sym same) is two)
     ];
@@ -31,7 +33,7 @@ module _ (marks : List Mark) (bindings : List Binding) (i : ℕ) (m : Mark) (at 
     at = h.at;
     is = h.is;
     two = h.two;
-    first = λ j n lt at_j two. elim (last_or j i lt) [
+    first = λ j n lt at_j two. elim (last_or_before j i lt) [
       | inl less ↦ h.first j n less at_j two
       | inr same ↦ absurd (other (one_at bindings i j b Ambiguous (sym same) is two))
     ];
@@ -45,7 +47,7 @@ module _ (marks : List Mark) (bindings : List Binding) (i : ℕ) (m : Mark) (at 
     at = at;
     is = same;
     two = is;
-    first = λ j n lt at_j two. elim (last_or j i lt) [
+    first = λ j n lt at_j two. elim (last_or_before j i lt) [
       | inl less ↦ least j n less at_j two
       | inr eq ↦ let p : n.pos ≡ place = ap (λ (x : Mark). x.pos) (sym (one_at marks i j m n (sym eq) at at_j)) ∙ same in omega (arith, p)
     ];
@@ -59,7 +61,7 @@ module _ (marks : List Mark) (bindings : List Binding) (i : ℕ) (m : Mark) (at 
     at = h.at;
     is = h.is;
     two = h.two;
-    first = λ j n lt at_j two. elim (last_or j i lt) [
+    first = λ j n lt at_j two. elim (last_or_before j i lt) [
       | inl less ↦ h.first j n less at_j two
       | inr eq ↦ let p : n.pos ≡ m.pos = ap (λ (x : Mark). x.pos) (sym (one_at marks i j m n (sym eq) at at_j)) in grind (arith, nat_tests, p, le)
     ];
@@ -84,14 +86,14 @@ module _ (marks : List Mark) (bindings : List Binding) (i : ℕ) (m : Mark) (at 
   pub spots_same : (spots : List Spot) (b : Binding) → slice_get bindings i ≡ Some b → ((w : WireId) (c : Point) → b ≡ Bound w c → ⊥) → AreSpotsOf marks bindings i spots → AreSpotsOf marks bindings (i + 1) spots
   spots_same spots b is other h = record {
     each = λ j s at_j. earlier s (h.each j s at_j);
-    all = λ k n w c lt at_k bound. elim (last_or k i lt) [
+    all = λ k n w c lt at_k bound. elim (last_or_before k i lt) [
       | inl less ↦ h.all k n w c less at_k bound
       | inr same ↦ absurd (other w c (one_at bindings i k b (Bound w c) (sym same) is bound))
     ];
   }
 
   kept_spot : (spots : List Spot) (s : Spot) (name : List ℕ) (w : WireId) (c : Point) → HasSpot spots name w c → HasSpot (spots ++ s ∷ []) name w c
-  kept_spot spots s name w c h = record { j = h.j; spot = h.spot; at = push_old spots (s ∷ []) h.j h.spot h.at; name_is = h.name_is; wire_is = h.wire_is; cell_is = h.cell_is }
+  kept_spot spots s name w c h = record { j = h.j; spot = h.spot; at = get_left spots (s ∷ []) h.j h.spot h.at; name_is = h.name_is; wire_is = h.wire_is; cell_is = h.cell_is }
 
   pub spots_more : (spots : List Spot) (s : Spot) → slice_get bindings i ≡ Some (Bound s.wire s.cell) → m.name ≡ s.name.now → AreSpotsOf marks bindings i spots → AreSpotsOf marks bindings (i + 1) (spots ++ s ∷ [])
   spots_more spots s is name h = record {
@@ -99,7 +101,7 @@ module _ (marks : List Mark) (bindings : List Binding) (i : ℕ) (m : Mark) (at 
       | inl old ↦ earlier t (h.each j t old)
       | inr (same, eq) ↦ subst (λ u. IsSpotOf marks bindings (i + 1) u) eq (record { k = i; mark = m; early = omega arith; at = at; is = is; name = name })
     ];
-    all = λ k n w c lt at_k bound. elim (last_or k i lt) [
+    all = λ k n w c lt at_k bound. elim (last_or_before k i lt) [
       | inl less ↦ kept_spot spots s n.name w c (h.all k n w c less at_k bound)
       | inr same ↦
           let one = one_at bindings i k (Bound s.wire s.cell) (Bound w c) (sym same) is bound in

@@ -14,8 +14,8 @@ use Rattle.mask_region.specs.Strips.{is_in_strip}
 use Rattle.net_trace.specs.declared.node.Node.{Node}
 use Rattle.net_trace.specs.Touching.{Nets, has_node, is_node, is_along, is_through, touches}
 use Rattle.net_trace.specs.Nets.{node_at}
-use Rattle.net_trace.proofs.Lists.{or_either}
-use Rattle.layout_extract.specs.Labels.{tried_wires, is_round, wire_of, is_shallow, is_bound_at, IsAmbiguous, count_bound, count_unbound, count_deep}
+use Rattle.mask_region.proofs.Within.{or_cases}
+use Rattle.layout_extract.specs.Labels.{tried_wires, is_round, label_wire, is_shallow, is_bound_at, IsAmbiguous, count_bound, count_unbound, count_deep}
 use Rattle.layout_extract.specs.Names.{Labelled, is_joining, is_joined_by_name, is_net_link, IsBoundName, IsLeastName, IsNumberName}
 
 impossible : {P : Type 0} → true ≡ false → P
@@ -86,24 +86,24 @@ label : List ℕ → Point → Option (List ℕ) → ℕ → Mark
 label name at layer depth = record { name = name; at = at; layer = layer; depth = depth; pos = 0 }
 
 -- one label between two wires
-by_map_order : wire_of nets plan (label (codes "A") (point 2 1) None 0) ≡ Some 0
+by_map_order : label_wire nets plan (label (codes "A") (point 2 1) None 0) ≡ Some 0
 unfolding nets plan strip label point a_wire
 by_map_order = refl
 
-by_the_line : wire_of nets plan (label (codes "A") (point 2 1) (Some (codes "CMF")) 0) ≡ Some 1
+by_the_line : label_wire nets plan (label (codes "A") (point 2 1) (Some (codes "CMF")) 0) ≡ Some 1
 unfolding nets plan strip label point a_wire
 by_the_line = refl
 
 -- the wires that the line does not list are not tried
-listed_wire_is_off : wire_of nets plan (label (codes "A") (point 4 1) (Some (codes "CPG")) 0) ≡ None
+listed_wire_is_off : label_wire nets plan (label (codes "A") (point 4 1) (Some (codes "CPG")) 0) ≡ None
 unfolding nets plan strip label point a_wire
 listed_wire_is_off = refl
 
-at_its_corner : wire_of nets plan (label (codes "A") (point 2 2) (Some (codes "CPG")) 0) ≡ Some 0
+at_its_corner : label_wire nets plan (label (codes "A") (point 2 2) (Some (codes "CPG")) 0) ≡ Some 0
 unfolding nets plan strip label point a_wire
 at_its_corner = refl
 
-past_its_corner : wire_of nets plan (label (codes "A") (point 3 2) (Some (codes "CPG")) 0) ≡ None
+past_its_corner : label_wire nets plan (label (codes "A") (point 3 2) (Some (codes "CPG")) 0) ≡ None
 unfolding nets plan strip label point a_wire
 past_its_corner = refl
 
@@ -223,9 +223,9 @@ upper_cell x y has = (grind (arith, ints, has), grind (arith, ints, has))
 
 which : (wire : ℕ) (x y : ℤ) → has_node corner wire x y ≡ true → (node_at wire x y ≡ node 0 0 0) ⊎ (node_at wire x y ≡ node 0 1 1)
 unfolding corner node
-which zero x y has = elim (or_either (is_in_strip (strip 0 0 1 1) x y) (is_in_strip (strip 1 1 2 2) x y || false) has) [
+which zero x y has = elim (or_cases (is_in_strip (strip 0 0 1 1) x y) (is_in_strip (strip 1 1 2 2) x y || false) has) [
   | inl low ↦ let (ex, ey) = lower_cell x y low in inl (λ i. record { wire = 0; x = ex i; y = ey i })
-  | inr rest ↦ elim (or_either (is_in_strip (strip 1 1 2 2) x y) false rest) [
+  | inr rest ↦ elim (or_cases (is_in_strip (strip 1 1 2 2) x y) false rest) [
     | inl high ↦ let (ex, ey) = upper_cell x y high in inr (λ i. record { wire = 0; x = ex i; y = ey i })
     | inr none ↦ impossible (sym none)
   ]

@@ -12,7 +12,7 @@ use Rattle.layout_extract.specs.declared.around.Near.{Near}
 use Rattle.layout_extract.specs.declared.around.Near.TheVariants.{Nothing, One, Two}
 use Rattle.layout_extract.specs.declared.bindings.Binding.{Binding}
 use Rattle.layout_extract.specs.declared.bindings.Binding.TheVariants.{Deep, Unbound, Ambiguous, Bound}
-use Rattle.layout_extract.specs.Labels.{wire_of, is_shallow, is_bound_at, IsAmbiguous}
+use Rattle.layout_extract.specs.Labels.{label_wire, is_shallow, is_bound_at, IsAmbiguous}
 
 -- ---- round a point
 
@@ -64,11 +64,11 @@ pub record IsBoundTo (nets : Nets) (plan : Plan) (m : Mark) (node : Node) : Type
 -- The label isn't deep, and has a wire.
 pub record HasWire (nets : Nets) (plan : Plan) (m : Mark) : Type 0 where
   pub wire : ℕ
-  pub is : wire_of nets plan m ≡ Some wire
+  pub is : label_wire nets plan m ≡ Some wire
   pub shallow : is_shallow m ≡ true
 
 pub record HasNoWire (nets : Nets) (plan : Plan) (m : Mark) : Type 0 where
-  pub none : wire_of nets plan m ≡ None
+  pub none : label_wire nets plan m ≡ None
   pub shallow : is_shallow m ≡ true
 
 abbrev pub IsBinding : Nets → Plan → Mark → Binding → Type 0

@@ -40,8 +40,8 @@ abbrev pub is_near : Nets → Point → ℕ → Bool
 is_near nets p wire = list_any (λ c. has_node nets wire c.x c.y) (cells_round p)
 
 -- the first of the wires that the label tries that has a node near its point
-abbrev pub wire_of : Nets → Plan → Mark → Option ℕ
-wire_of nets plan m = find (is_near nets m.at) (tried_wires plan m.layer)
+abbrev pub label_wire : Nets → Plan → Mark → Option ℕ
+label_wire nets plan m = find (is_near nets m.at) (tried_wires plan m.layer)
 
 -- ---- where a label is bound
 
@@ -55,7 +55,7 @@ is_wire (Some w) wire = w == wire
 
 -- whether the label is bound to the node: a node of the label's wire, at one of the four cells round its point
 abbrev pub is_bound_at : Nets → Plan → Mark → Node → Bool
-is_bound_at nets plan m a = (is_shallow m && is_wire (wire_of nets plan m) a.wire) && (is_round m.at a.x a.y && is_node nets a)
+is_bound_at nets plan m a = (is_shallow m && is_wire (label_wire nets plan m) a.wire) && (is_round m.at a.x a.y && is_node nets a)
 
 -- The nodes to which the label is bound lie in two or more pieces: two of them are not linked by touching.
 pub record IsAmbiguous (nets : Nets) (plan : Plan) (m : Mark) : Type 0 where
@@ -82,11 +82,11 @@ pub record IsFirstAmbiguous (nets : Nets) (plan : Plan) (marks : List Mark) (pla
 
 -- those that have a wire
 abbrev pub count_bound : Nets → Plan → List Mark → ℕ
-count_bound nets plan marks = count_by (λ m. is_shallow m && is_some (wire_of nets plan m)) marks
+count_bound nets plan marks = count_by (λ m. is_shallow m && is_some (label_wire nets plan m)) marks
 
 -- those that have none
 abbrev pub count_unbound : Nets → Plan → List Mark → ℕ
-count_unbound nets plan marks = count_by (λ m. is_shallow m && not (is_some (wire_of nets plan m))) marks
+count_unbound nets plan marks = count_by (λ m. is_shallow m && not (is_some (label_wire nets plan m))) marks
 
 -- those that stand deeper
 abbrev pub count_deep : List Mark → ℕ

@@ -47,7 +47,8 @@ pub(crate) fn name_layout(
 }
 
 /// The named nets of a file, as the definition `IsNamedFrom` says. The file is refused as `RefusesLayout` says: where it
-/// does not unfold, where there are over 8,192 pieces, and where a label is ambiguous, in this order.
+/// does not unfold, where there are over 8,192 pieces, and where a label is ambiguous, in this order. Where no memory is
+/// found, it gives `NoMemory`.
 pub fn name_nets(alloc: Global, file: &CifFile, map: &LayerMap) -> Result<Named, LayoutRefusal>
     ensures named { IfOk result (λ named. IsNamedFrom file.now map.now named) }
     ensures refused { (refusal : LayoutRefusal) → result ≡ Err refusal → RefusesLayout file.now map.now refusal }

@@ -14,7 +14,7 @@ pub enum LayoutRefusal {
     /// The nodes of a label's wire round its point lie in two or more pieces. The least position of such a label, as the
     /// number of bytes before its command's first byte.
     LabelAmbiguous(u64),
-    /// No memory is left.
+    /// No memory was found, at any step. This says nothing of the layout.
     NoMemory,
 }
 

@@ -36,10 +36,21 @@ fn names(alloc: Global, named: &Named) -> Result<Vec<u8>, AllocError> {
     Ok(text)
 }
 
+/// The labels of two blocks of metal, the names of the nets, each with a blank behind it, and how many labels are bound,
+/// are not bound and stand deep.
+type Row = (&'static str, &'static str, (u32, u32, u32));
+
+/// The names and the numbers that two blocks of metal with these labels get.
+fn labelled(alloc: Global, labels: &str) -> Result<(Vec<u8>, (u32, u32, u32)), Fail> {
+    let mut text = String::from_str(alloc, "L CMF;B 20 20 10 10;B 20 20 50 10;")?;
+    text.push_str(labels)?;
+    let named = name(alloc, text.as_str())??;
+    Ok((names(alloc, &named)?, named.tallies()))
+}
+
 #[test]
 fn nets_are_joined_and_named(rt: HostRuntime) -> Result<(), Fail> {
-    let alloc = rt.alloc();
-    let rows: [(&str, &str, (u32, u32, u32)); 12] = [
+    let rows: [Row; 6] = [
         // one name, two names of a supply, and names of both supplies
         ("94 A 10 10 CMF;94 A 50 10 CMF;E", "A ", (2, 0, 0)),
         ("94 Vdd 10 10 CMF;94 Vcc 50 10 CMF;E", "Vcc ", (2, 0, 0)),
@@ -48,6 +59,18 @@ fn nets_are_joined_and_named(rt: HostRuntime) -> Result<(), Fail> {
         // the first of two names, and none
         ("94 B 10 10 CMF;94 A 10 5 CMF;E", "A #1 ", (2, 0, 0)),
         ("E", "#0 #1 ", (0, 0, 0)),
+    ];
+    for (labels, expected, tallies) in rows {
+        let (names, found) = labelled(rt.alloc(), labels)?;
+        assert!(rt; names.as_slice() == expected.as_bytes(), "{}", labels);
+        assert_eq!(rt; found, tallies, "{}", labels);
+    }
+    Ok(())
+}
+
+#[test]
+fn labels_try_wires_and_depths(rt: HostRuntime) -> Result<(), Fail> {
+    let rows: [Row; 6] = [
         // the first wire of a list, of the map, and none
         (
             "L CPG;B 20 20 10 10;94 A 10 10 CPG;E",
@@ -70,12 +93,9 @@ fn nets_are_joined_and_named(rt: HostRuntime) -> Result<(), Fail> {
         ),
     ];
     for (labels, expected, tallies) in rows {
-        let mut text = String::from_str(alloc, "L CMF;B 20 20 10 10;B 20 20 50 10;")?;
-        text.push_str(labels)?;
-        let named = name(alloc, text.as_str())??;
-        let names = names(alloc, &named)?;
+        let (names, found) = labelled(rt.alloc(), labels)?;
         assert!(rt; names.as_slice() == expected.as_bytes(), "{}", labels);
-        assert_eq!(rt; named.tallies(), tallies, "{}", labels);
+        assert_eq!(rt; found, tallies, "{}", labels);
     }
     Ok(())
 }

@@ -40,7 +40,7 @@ classes_are size parents pairs label least forest joined linked each h = record 
   on = record { same = λ x lt. h.same x (subst (λ n. x < n) (sym each) lt) }
 
 -- a list has each of its pairs
-pub has_own : (pairs : List (ℕ × ℕ)) (k : ℕ) → k < length pairs → has_pair pairs (get_or pairs k (0, 0)).0 (get_or pairs k (0, 0)).1 ≡ true
-has_own pairs k lt =
-    let p : ℕ × ℕ = get_or pairs k (0, 0) in
-    list_any_at (λ (q : ℕ × ℕ). q.0 == p.0 && q.1 == p.1) pairs k (0, 0) lt (and_from (p.0 == p.0) (p.1 == p.1) (eq-eqb p.0 p.0 refl) (eq-eqb p.1 p.1 refl))
+pub has_own : (pairs : List (ℕ × ℕ)) (k : ℕ) (d : ℕ × ℕ) → k < length pairs → has_pair pairs (get_or pairs k d).0 (get_or pairs k d).1 ≡ true
+has_own pairs k d lt =
+    let p : ℕ × ℕ = get_or pairs k d in
+    list_any_at (λ (q : ℕ × ℕ). q.0 == p.0 && q.1 == p.1) pairs k d lt (and_from (p.0 == p.0) (p.1 == p.1) (eq-eqb p.0 p.0 refl) (eq-eqb p.1 p.1 refl))

@@ -1,3 +1,5 @@
+//! The classes of a few pairs.
+
 use crate::classes_of;
 use std::test::Fail;
 

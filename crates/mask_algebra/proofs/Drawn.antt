@@ -1,6 +1,6 @@
 -- Shapes that lie within a bound.
 use Rattle.std.proofs.Common.{◌^◌, ◌<◌, List, [], ◌∷◌, length, arith, Vec, Global}
-use Rattle.std.specs.Prelude.{pos, neg_ℤ}
+use Rattle.std.specs.Prelude.{pos}
 use Rattle.std.specs.List.{All}
 use Rattle.std.proofs.lemmas.Int.{ints}
 use Rattle.std.proofs.lemmas.List.Elements.{All-head, All-weaker}
@@ -10,6 +10,7 @@ use Rattle.plane_geom.specs.declared.shapes.Shape.TheVariants.{Block, Polygon}
 use Rattle.plane_geom.specs.Bounds.{IsPointWithin, IsRectWithin}
 use Rattle.plane_geom.specs.Covering.{polygon, block, IsOutline, IsRect, IsRectIn, HoldsAround, IsReach}
 use Rattle.cif_flatten.specs.Flat.{IsShapeWithin}
+use Rattle.mask_algebra.specs.Layers.{square}
 
 rect_reach : (b r : Rect) → IsRectWithin (2 ^ 24) b → IsReach (block b) r → IsRectWithin (2 ^ 24) r
 rect_reach b r near reach =
@@ -25,11 +26,7 @@ rect_reach b r near reach =
 pub block_within : (b : Rect) → IsRect b → IsRectWithin (2 ^ 24) b → IsShapeWithin (2 ^ 24) (Block b)
 block_within b formed near = record { formed = formed; reach = λ r reach. rect_reach b r near reach }
 
-square : Rect
-square = record { x0 = neg_ℤ (pos (2 ^ 24)); y0 = neg_ℤ (pos (2 ^ 24)); x1 = pos (2 ^ 24); y1 = pos (2 ^ 24) }
-
 in_square : (p : Point) → IsPointWithin (2 ^ 24) p → HoldsAround square (pos 0) p
-unfolding square
 in_square p h =
     record {
       left = omega (arith, ints, h.x.low);
@@ -39,7 +36,6 @@ in_square p h =
     }
 
 outline_reach : (points : List Point) → 0 < length points → All (IsPointWithin (2 ^ 24)) points → (r : Rect) → IsReach (polygon points) r → IsRectWithin (2 ^ 24) r
-unfolding square
 outline_reach [] some near r reach = absurd (omega arith)
 outline_reach (p ∷ ps) some near r reach =
     let n = All-head (IsPointWithin (2 ^ 24)) p ps near in

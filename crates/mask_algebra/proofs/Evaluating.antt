@@ -10,10 +10,7 @@ use Rattle.mask_region.specs.Strips.{Banded, IsCellWithin, AreStripsWithin}
 use Rattle.mask_region.proofs.Within.{within-cells}
 use Rattle.mask_algebra.specs.Masks.{is_true_at}
 use Rattle.mask_algebra.specs.Layers.{IsValue, square}
-
-and_first : (p q : Bool) → (p && q) ≡ true → p ≡ true
-and_first true q h = refl
-and_first false q h = h
+use Rattle.std.proofs.lemmas.Bool.{and_parts}
 
 cell_near : (x y : ℤ) → is_in_rect square x y ≡ true → IsCellWithin (2 ^ 24) x y
 cell_near x y h =
@@ -26,4 +23,4 @@ cell_near x y h =
 
 pub mask_near : (draws : List Draw) (f : Formula) (region : List Strip) → Banded region → IsValue draws f region → AreStripsWithin (2 ^ 24) region
 mask_near draws f region banded h =
-    within-cells (2 ^ 24) region banded (λ x y e. cell_near x y (and_first (is_in_rect square x y) (is_true_at draws f x y) (sym (h.inside x y) ∙ e)))
+    within-cells (2 ^ 24) region banded (λ x y e. cell_near x y (and_parts (is_in_rect square x y) (is_true_at draws f x y) (sym (h.inside x y) ∙ e)).0)

@@ -2,80 +2,77 @@
 
 ghost use Rattle.std.specs.Prelude.{◌≡◌, ◌^◌, false, IfOk, map};
 ghost use Rattle.std.specs.List.{AllByRecursion};
-ghost use Rattle.layer_map.specs.Truth.{formula_of, is_unbounded};
+ghost use Rattle.layer_map.specs.Truth.{Formula, formula_of, is_unbounded};
 ghost use Rattle.mask_region.specs.Strips.{AreRegionsWithin};
 ghost use Rattle.mask_algebra.specs.Masks.{wire_formulas, cut_formulas, channel_formulas, AreMasks};
 
 use crate::canvas::Canvas;
 use cif_flatten::Flat;
-use layer_map::{CutLine, FetLine, LayerMap, WireLine};
+use layer_map::{CutLine, Expr, FetLine, LayerMap, WireLine};
 use mask_region::{Masks, Region};
 use std::alloc::{AllocError, Global};
 
 /// One region for each wire, cut and transistor line of the map, in the map's order: exactly the cells where the line's
-/// expression is true on the layout, by the definition `is_true_at`.
+/// expression is true on the layout, by the definition `is_true_at`. It fails only where no memory is found.
 pub fn evaluate(alloc: Global, map: &LayerMap, flat: &Flat) -> Result<Masks, AllocError>
     ensures wires { IfOk result (λ masks. AreMasks flat.now.draws (wire_formulas map.now) masks.wires) }
     ensures cuts { IfOk result (λ masks. AreMasks flat.now.draws (cut_formulas map.now) masks.cuts) }
     ensures channels { IfOk result (λ masks. AreMasks flat.now.draws (channel_formulas map.now) masks.channels) }
 {
     let mut canvas = Canvas::new(alloc, flat)?;
-    let wires = wire_masks(alloc, &mut canvas, map.wires())?;
-    let cuts = cut_masks(alloc, &mut canvas, map.cuts())?;
-    let channels = channel_masks(alloc, &mut canvas, map.fets())?;
+    let wires = masks_of(alloc, &mut canvas, map.wires())?;
+    let cuts = masks_of(alloc, &mut canvas, map.cuts())?;
+    let channels = masks_of(alloc, &mut canvas, map.fets())?;
     Ok(Masks::new(wires, cuts, channels))
 }
 
-/// The masks of the wires.
-fn wire_masks(
-    alloc: Global,
-    canvas: &mut Canvas<'_>,
-    wires: &[WireLine],
-) -> Result<Vec<Region>, AllocError>
-    requires { AllByRecursion (λ l. is_unbounded (formula_of l.expr) ≡ false) wires.now }
-    ensures same { canvas.new ≡ canvas.old }
-    ensures masks { IfOk result (λ v. AreMasks canvas.old (map (λ l. formula_of l.expr) wires.now) v.items) }
-    ensures near { IfOk result (λ v. AreRegionsWithin (2 ^ 24) v.items) }
-{
-    let mut masks = Vec::new(alloc);
-    for wire in wires {
-        masks.push(canvas.mask(alloc, &wire.expr)?)?;
-    }
-    Ok(masks)
+/// A line of a map that has a mask: the cells where its expression is true.
+trait MaskLine {
+    ghost formula: { Self → Formula };
+
+    /// The expression of the line.
+    fn expr(&self) -> &Expr
+        ensures { formula_of result.now ≡ formula self.now };
 }
 
-/// The masks of the cuts.
-fn cut_masks(
-    alloc: Global,
-    canvas: &mut Canvas<'_>,
-    cuts: &[CutLine],
-) -> Result<Vec<Region>, AllocError>
-    requires { AllByRecursion (λ l. is_unbounded (formula_of l.expr) ≡ false) cuts.now }
-    ensures same { canvas.new ≡ canvas.old }
-    ensures masks { IfOk result (λ v. AreMasks canvas.old (map (λ l. formula_of l.expr) cuts.now) v.items) }
-    ensures near { IfOk result (λ v. AreRegionsWithin (2 ^ 24) v.items) }
-{
-    let mut masks = Vec::new(alloc);
-    for cut in cuts {
-        masks.push(canvas.mask(alloc, &cut.expr)?)?;
+impl MaskLine for WireLine {
+    ghost formula = { λ l. formula_of l.expr };
+
+    fn expr(&self) -> &Expr {
+        &self.expr
     }
-    Ok(masks)
 }
 
-/// The masks of the channels.
-fn channel_masks(
+impl MaskLine for CutLine {
+    ghost formula = { λ l. formula_of l.expr };
+
+    fn expr(&self) -> &Expr {
+        &self.expr
+    }
+}
+
+impl MaskLine for FetLine {
+    ghost formula = { λ l. formula_of l.channel };
+
+    fn expr(&self) -> &Expr {
+        &self.channel
+    }
+}
+
+/// The masks of the lines, in their order.
+fn masks_of<L: MaskLine>(
     alloc: Global,
     canvas: &mut Canvas<'_>,
-    fets: &[FetLine],
+    lines: &[L],
 ) -> Result<Vec<Region>, AllocError>
-    requires { AllByRecursion (λ l. is_unbounded (formula_of l.channel) ≡ false) fets.now }
+    requires { AllByRecursion (λ l. is_unbounded (L.formula l) ≡ false) lines.now }
     ensures same { canvas.new ≡ canvas.old }
-    ensures masks { IfOk result (λ v. AreMasks canvas.old (map (λ l. formula_of l.channel) fets.now) v.items) }
+    ensures masks { IfOk result (λ v. AreMasks canvas.old (map L.formula lines.now) v.items) }
     ensures near { IfOk result (λ v. AreRegionsWithin (2 ^ 24) v.items) }
 {
     let mut masks = Vec::new(alloc);
-    for fet in fets {
-        masks.push(canvas.mask(alloc, &fet.channel)?)?;
+    for line in lines {
+        masks.push(canvas.mask(alloc, line.expr())?)?;
     }
     Ok(masks)
 }

@@ -46,8 +46,8 @@ at_most_one : (b : Bool) → cond b 1 0 ≤ 1
 at_most_one true = omega arith
 at_most_one false = omega arith
 
-count_by_most : {X : Type 0} (p : X → Bool) (xs : List X) → count_by p xs ≤ length xs
-count_by_most p xs = omega (arith, sum_by-le (λ x. cond (p x) 1 0) 1 xs (λ k d h. at_most_one (p (slice_index_or xs k d))))
+pub count_by_length : {X : Type 0} (p : X → Bool) (xs : List X) → count_by p xs ≤ length xs
+count_by_length p xs = omega (arith, sum_by-le (λ x. cond (p x) 1 0) 1 xs (λ k d h. at_most_one (p (slice_index_or xs k d))))
 
 window_most : (z : ℤ) (n : ℕ) (test : ℤ → ℤ → Bool) → count_window z n test ≤ n * n
 window_most z n test =
@@ -55,7 +55,7 @@ window_most z n test =
     subst P (length-numbers z n)
     (sum_by-le (λ y. count_by (λ x. test x y) (numbers z n)) n (numbers z n)
     (λ k d h. let Q : ℕ → Type 0 = λ m. count_by (λ x. test x (slice_index_or (numbers z n) k d)) (numbers z n) ≤ m in
-    subst Q (length-numbers z n) (count_by_most (λ x. test x (slice_index_or (numbers z n) k d)) (numbers z n))))
+    subst Q (length-numbers z n) (count_by_length (λ x. test x (slice_index_or (numbers z n) k d)) (numbers z n))))
 
 pub count_cells_most : (test : ℤ → ℤ → Bool) → count_cells test < 2 ^ 53
 unfolding count_cells

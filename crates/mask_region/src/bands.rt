@@ -1,3 +1,5 @@
+//! The strips of two joined sets, made row by row.
+
 ghost use Rattle.std.specs.Prelude.{◌≡◌, ◌^◌, ◌<◌, ◌≤◌, ℤ, [], true, pos, neg_ℤ, ◌≤ℤ◌, ◌<ℤ◌, ◌||◌, ◌&&◌, length, take, drop, OnOk, IfOk, IfSome};
 ghost use Rattle.plane_geom.specs.Cells.{is_between};
 ghost use Rattle.plane_geom.specs.Ends.{flips};

@@ -1,3 +1,5 @@
+//! The strips of the meet, from the strips in common columns.
+
 ghost use Rattle.std.specs.Prelude.{◌≡◌, ℤ, ◌≤ℤ◌, ◌&&◌, filter, IfOk};
 ghost use Rattle.std.specs.List.{All};
 ghost use Rattle.mask_region.specs.Columns.{reaches, IsInColumns};

@@ -1,3 +1,5 @@
+//! Rows: the ends of their spans, and the joined row of two.
+
 ghost use Rattle.std.specs.Prelude.{◌≡◌, ◌^◌, ◌-◌, ◌<◌, ◌≤◌, ◌⊎◌, ℤ, ◌≤ℤ◌, ◌<ℤ◌, Bool, true, length, take, OnOk, IfSome};
 ghost use Rattle.std.specs.List.{All};
 ghost use Rattle.plane_geom.specs.Bounds.{IsWithin};

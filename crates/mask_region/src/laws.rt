@@ -1,3 +1,5 @@
+//! Laws of the bounds of regions.
+
 ghost use Rattle.std.specs.Prelude.{◌≡◌, ℕ, ℤ, true, ◌||◌, List};
 ghost use Rattle.std.specs.List.{All};
 ghost use Rattle.plane_geom.specs.declared.shapes.Rect.{Rect};

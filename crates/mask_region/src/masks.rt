@@ -1,3 +1,5 @@
+//! The regions of a layout, line by line of its map.
+
 ghost use Rattle.std.specs.Prelude.{◌≡◌, ◌^◌};
 ghost use Rattle.mask_region.specs.Strips.{AreRegionsWithin};
 

@@ -1,3 +1,5 @@
+//! The strips of rectangles.
+
 ghost use Rattle.std.specs.Prelude.{◌≡◌, ◌^◌, ℤ, IfOk, IfSome, false};
 ghost use Rattle.std.specs.List.{All};
 ghost use Rattle.plane_geom.specs.Bounds.{IsRectWithin};

@@ -1,3 +1,5 @@
+//! Regions: sets of cells, and the operations on them.
+
 ghost use Rattle.std.specs.Prelude.{◌≡◌, ◌^◌, ◌<◌, ◌≤◌, ◌++◌, ◌∷◌, ℤ, [], false, not, ◌&&◌, ◌||◌, IfOk, OnOk, OnErr, MatchOption};
 ghost use Rattle.std.specs.List.{All};
 ghost use Rattle.plane_geom.specs.Bounds.{IsRectWithin};
@@ -46,6 +48,7 @@ impl Region {
     }
 
     /// The cells of all rectangles, whose coordinates are at most 33,554,432 from 0.
+    /// It fails only where no memory is found.
     pub fn of_rects(alloc: Global, rects: &[Rect]) -> Result<Region, AllocError>
         requires { All (IsRectWithin (2 ^ 25)) rects.now }
         ensures { IfOk result (λ r. (x y : ℤ) → is_in r x y ≡ is_in_rects rects.now x y) }
@@ -55,7 +58,7 @@ impl Region {
         })
     }
 
-    /// The same region once more.
+    /// The same region once more. It fails only where no memory is found.
     pub fn copy(&self, alloc: Global) -> Result<Region, AllocError>
         ensures { IfOk result (λ r. r ≡ self.now) }
     {
@@ -75,14 +78,14 @@ impl Region {
         Ok(())
     }
 
-    /// The cells that are in this region, in the other one, or in both.
+    /// The cells that are in this region, in the other one, or in both. It fails only where no memory is found.
     pub fn union(&self, alloc: Global, other: &Region) -> Result<Region, AllocError>
         ensures { IfOk result (λ r. (x y : ℤ) → is_in r x y ≡ (is_in self.now x y || is_in other.now x y)) }
     {
         self.joined(alloc, Joining::Union, other)
     }
 
-    /// The cells that are in both regions.
+    /// The cells that are in both regions. It fails only where no memory is found.
     pub fn meet(&self, alloc: Global, other: &Region) -> Result<Region, AllocError>
         ensures { IfOk result (λ r. (x y : ℤ) → is_in r x y ≡ (is_in self.now x y && is_in other.now x y)) }
     {
@@ -90,7 +93,7 @@ impl Region {
         Ok(Region { strips })
     }
 
-    /// The cells that are in this region and not in the other one.
+    /// The cells that are in this region and not in the other one. It fails only where no memory is found.
     pub fn minus(&self, alloc: Global, other: &Region) -> Result<Region, AllocError>
         ensures { IfOk result (λ r. (x y : ℤ) → is_in r x y ≡ (is_in self.now x y && not (is_in other.now x y))) }
     {
@@ -99,6 +102,7 @@ impl Region {
 
     /// The placements of a square of `side` cells on a side that meet the region. A placement is named by the lower
     /// left cell of the square. The side is from 1 to 65,536, and no coordinate of the region is over 16,777,216 from 0.
+    /// It fails only where no memory is found.
     pub fn grow(&self, alloc: Global, side: u32) -> Result<Region, AllocError>
         requires some { 0 < side }
         requires small { side ≤ 65536 }

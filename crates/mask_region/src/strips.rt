@@ -1,3 +1,5 @@
+//! Strips: rectangles of cells.
+
 ghost use Rattle.std.specs.Prelude.{◌≡◌, ◌^◌, ◌<◌, ◌≤◌, ℤ, not, int_lt};
 ghost use Rattle.plane_geom.specs.Bounds.{IsRectWithin};
 ghost use Rattle.plane_geom.specs.Cells.{is_between, is_in_rect, is_met, count_cells};

@@ -1,3 +1,5 @@
+//! Regions of a few rectangles.
+
 ghost use Rattle.std.specs.Prelude.{◌^◌, IfOk};
 ghost use Rattle.std.specs.List.{All};
 ghost use Rattle.plane_geom.specs.Bounds.{IsRectWithin};
@@ -52,8 +54,20 @@ struct Row {
     areas: [u64; 4],
 }
 
+/// How many cells there are in the row's joined regions.
+fn joined_areas(alloc: Global, row: &Row) -> Result<[u64; 4], AllocError> {
+    let a = region(alloc, row.a)?;
+    let b = region(alloc, row.b)?;
+    Ok([
+        a.union(alloc, &b)?.area(),
+        a.meet(alloc, &b)?.area(),
+        a.minus(alloc, &b)?.area(),
+        b.minus(alloc, &a)?.area(),
+    ])
+}
+
 #[test]
-fn joins_two_regions(rt: HostRuntime) -> Result<(), Fail> {
+fn joins_regions_that_lie_apart(rt: HostRuntime) -> Result<(), Fail> {
     let rows = [
         Row {
             shows: "nothing and nothing",
@@ -68,12 +82,6 @@ fn joins_two_regions(rt: HostRuntime) -> Result<(), Fail> {
             areas: [16, 0, 0, 16],
         },
         Row {
-            shows: "a square in a square",
-            a: &[(0, 0, 4, 4)],
-            b: &[(1, 1, 3, 3)],
-            areas: [16, 4, 12, 0],
-        },
-        Row {
             shows: "squares with an edge in common",
             a: &[(0, 0, 2, 2)],
             b: &[(2, 0, 4, 2)],
@@ -84,6 +92,22 @@ fn joins_two_regions(rt: HostRuntime) -> Result<(), Fail> {
             a: &[(-2, -2, 0, 0)],
             b: &[(0, 0, 2, 2)],
             areas: [8, 0, 4, 4],
+        },
+    ];
+    for row in &rows {
+        assert_eq!(rt; joined_areas(rt.alloc(), row)?, row.areas, "{}", row.shows);
+    }
+    Ok(())
+}
+
+#[test]
+fn joins_regions_that_overlap(rt: HostRuntime) -> Result<(), Fail> {
+    let rows = [
+        Row {
+            shows: "a square in a square",
+            a: &[(0, 0, 4, 4)],
+            b: &[(1, 1, 3, 3)],
+            areas: [16, 4, 12, 0],
         },
         Row {
             shows: "squares that overlap",
@@ -99,15 +123,7 @@ fn joins_two_regions(rt: HostRuntime) -> Result<(), Fail> {
         },
     ];
     for row in &rows {
-        let a = region(rt.alloc(), row.a)?;
-        let b = region(rt.alloc(), row.b)?;
-        let areas = [
-            a.union(rt.alloc(), &b)?.area(),
-            a.meet(rt.alloc(), &b)?.area(),
-            a.minus(rt.alloc(), &b)?.area(),
-            b.minus(rt.alloc(), &a)?.area(),
-        ];
-        assert_eq!(rt; areas, row.areas, "{}", row.shows);
+        assert_eq!(rt; joined_areas(rt.alloc(), row)?, row.areas, "{}", row.shows);
     }
     Ok(())
 }

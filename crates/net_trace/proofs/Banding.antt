@@ -10,6 +10,7 @@ use Rattle.link_classes.specs.Classes.{has_pair}
 use Rattle.mask_region.specs.Strips.{IsStrip}
 use Rattle.net_trace.specs.declared.wiring.Vertex.{Vertex}
 use Rattle.net_trace.specs.Wirings.{IsBehind, AreOrdered, is_below, is_done, IsBelowPair, AreBands}
+use Rattle.net_trace.proofs.Lists.{not_both_ways}
 
 -- All pairs with a place before one of these are among those found.
 pub record AreBandsTo (vertices : List Vertex) (lower upper : ℕ) (pairs : List (ℕ × ℕ)) : Type 0 where
@@ -57,9 +58,6 @@ pub record AreBandsHere (vertices : List Vertex) (lower upper : ℕ) (pairs : Li
   pub to : AreBandsTo vertices lower upper pairs
   pub own : (u v : Vertex) → slice_get vertices lower ≡ Some u → slice_get vertices upper ≡ Some v → is_below u v ≡ true → has_pair pairs lower upper ≡ true
 
-not_true : {P : Type 0} (b : Bool) → b ≡ true → b ≡ false → P
-not_true b is not = let none : ⊥ = cc in absurd none
-
 at_index : (vertices : List Vertex) (i : ℕ) (d u : Vertex) → slice_get vertices i ≡ Some u → get_or vertices i d ≡ u
 at_index vertices i d u at = get_or_from_slice_get vertices i u d at
 
@@ -97,7 +95,7 @@ module _ (vertices : List Vertex) (lower upper : ℕ) (d e : Vertex) (in_range :
       → AreBandsHere vertices lower upper new
   here_same pairs new h is below = subst (λ l. AreBandsHere vertices lower upper l) (sym is) (record {
     to = h;
-    own = λ u v at_u at_v on. not_true (is_below (get_or vertices lower d) (get_or vertices upper e))
+    own = λ u v at_u at_v on. not_both_ways (is_below (get_or vertices lower d) (get_or vertices upper e))
         (below_moved (get_or vertices lower d) u (get_or vertices upper e) v (at_index vertices lower d u at_u) (at_index vertices upper e v at_v) on) below;
   })
 
@@ -110,7 +108,7 @@ module _ (vertices : List Vertex) (lower upper : ℕ) (d e : Vertex) (in_range :
 
     apart : is_done (get_or vertices lower d) (get_or vertices upper e) ≡ true → lower < upper
     apart done = elim (cases_order lower upper) [
-      | inl same ↦ absurd (not_true (is_done (get_or vertices lower d) (get_or vertices lower d))
+      | inl same ↦ absurd (not_both_ways (is_done (get_or vertices lower d) (get_or vertices lower d))
           (subst (λ (x : Vertex). is_done (get_or vertices lower d) x ≡ true) (sym (at_index vertices lower d (get_or vertices upper e) (ap (λ i. slice_get vertices i) same ∙ upper_at))) done)
           (not_done_self (get_or vertices lower d) (ordered.strip lower (get_or vertices lower d) lower_at)))
       | inr (inl less) ↦ less
@@ -123,7 +121,7 @@ module _ (vertices : List Vertex) (lower upper : ℕ) (d e : Vertex) (in_range :
         elim (cases_order q upper) [
           | inl level ↦ subst (λ i. has_pair pairs i q ≡ true) (sym same) (subst (λ i. has_pair pairs lower i ≡ true) (sym level) (h.own u v at_u (ap (λ i. slice_get vertices i) (sym level) ∙ at_q) on))
           | inr (inl less) ↦ h.to.whole p q u v (inr less) at_p at_q on
-          | inr (inr more) ↦ not_true (is_below u v) on
+          | inr (inr more) ↦ not_both_ways (is_below u v) on
               (done_later u (get_or vertices upper e) v (subst (λ (x : Vertex). is_done x (get_or vertices upper e) ≡ true) (at_index vertices lower d u at_u) done) (ordered.behind upper q (get_or vertices upper e) v more upper_at at_q))
         ]
 
@@ -148,7 +146,7 @@ module _ (vertices : List Vertex) (lower upper : ℕ) (d e : Vertex) (in_range :
         elim (cases_order p lower) [
           | inl level ↦ subst (λ i. has_pair pairs p i ≡ true) (sym same) (subst (λ i. has_pair pairs i upper ≡ true) (sym level) (h.own u v (ap (λ i. slice_get vertices i) (sym level) ∙ at_p) at_v on))
           | inr (inl less) ↦ h.to.whole p q u v (inl less) at_p at_q on
-          | inr (inr more) ↦ not_true (is_below u v) on
+          | inr (inr more) ↦ not_both_ways (is_below u v) on
               (kept_later (get_or vertices lower d) v u (subst (λ (x : Vertex). is_done (get_or vertices lower d) x ≡ false) (at_index vertices upper e v at_v) done) (ordered.strip p u at_p) (ordered.behind lower p (get_or vertices lower d) u more lower_at at_p))
         ]
 

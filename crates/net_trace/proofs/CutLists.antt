@@ -1,9 +1,8 @@
 -- Lists of cuts that grow.
-use Rattle.std.proofs.Common.{◌≡◌, ℕ, suc, ◌+◌, ◌<◌, ◌≤◌, List, [], ◌∷◌, ◌++◌, length, map, take, get_or, refl, sym, ap, ◌∙◌, arith}
-use Rattle.std.proofs.lemmas.List.{take_more, take_all, length-take-le}
+use Rattle.std.proofs.Common.{◌≡◌, ℕ, ◌+◌, ◌<◌, ◌≤◌, List, [], ◌∷◌, ◌++◌, length, map, take, get_or, refl, sym, ap, ◌∙◌, arith}
+use Rattle.std.proofs.lemmas.List.{take_more, take_all, length-take-le, length-map}
 use Rattle.mask_region.specs.declared.strips.Strip.{Strip}
-use Rattle.net_trace.specs.Touching.{Cut}
-use Rattle.net_trace.specs.Wirings.{cuts_with}
+use Rattle.net_trace.specs.Touching.{Cut, cuts_with}
 
 cuts_push : (rs : List (List Strip)) (ls : List (List ℕ)) (r : List Strip) (l : List ℕ) → length rs ≡ length ls → cuts_with (rs ++ r ∷ []) (ls ++ l ∷ []) ≡ cuts_with rs ls ++ record { region = r; wires = l } ∷ []
 cuts_push [] [] r l same = refl
@@ -14,10 +13,6 @@ cuts_push (q ∷ rs) (m ∷ ls) r l same = ap (λ cs. record { region = q; wires
 map_push : {A B : Type 0} (f : A → B) (xs : List A) (x : A) → map f (xs ++ x ∷ []) ≡ map f xs ++ f x ∷ []
 map_push f [] x = refl
 map_push f (y ∷ xs) x = ap (λ l. f y ∷ l) (map_push f xs x)
-
-length_map : {A B : Type 0} (f : A → B) (xs : List A) → length (map f xs) ≡ length xs
-length_map f [] = refl
-length_map f (x ∷ xs) = ap suc (length_map f xs)
 
 module _ {A : Type 0} (wires : A → List ℕ) where
   pub cuts_more : (cuts new : List Cut) (regions : List (List Strip)) (lines : List A) (k : ℕ) (r d : List Strip) (line e : A) (listed : List ℕ) → length regions ≡ length lines → k < length lines
@@ -31,7 +26,7 @@ module _ {A : Type 0} (wires : A → List ℕ) where
       ∙ ap (λ l. cuts_with (take (k + 1) regions) (map wires l)) (ap (λ q. take k lines ++ q ∷ []) is_line ∙ sym (take_more lines k e lt))
     where
       lengths : length (take k regions) ≡ length (map wires (take k lines))
-      lengths = length-take-le k regions (omega (arith, lt, same)) ∙ sym (length_map wires (take k lines) ∙ length-take-le k lines (omega (arith, lt)))
+      lengths = length-take-le k regions (omega (arith, lt, same)) ∙ sym (length-map (take k lines) wires ∙ length-take-le k lines (omega (arith, lt)))
 
   pub cuts_all : (cuts : List Cut) (regions : List (List Strip)) (lines : List A) (k : ℕ) → length regions ≡ length lines → length lines ≤ k
       → cuts ≡ cuts_with (take k regions) (map wires (take k lines)) → cuts ≡ cuts_with regions (map wires lines)

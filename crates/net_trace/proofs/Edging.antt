@@ -3,7 +3,7 @@ use Rattle.std.proofs.Common.{◌≡◌, ℕ, ◌+◌, ◌<◌, ◌≤◌, true,
 use Rattle.std.specs.Prelude.{ℤ, pos, ◌+ℤ◌, ◌-ℤ◌, ◌<ℤ◌, ◌≤ℤ◌}
 use Rattle.std.specs.List.{All, list_any}
 use Rattle.std.specs.Ordering.{int_eq}
-use Rattle.std.proofs.lemmas.Bool.{cases_order, and_parts, and_from, eqb-true, eq-eqb}
+use Rattle.std.proofs.lemmas.Bool.{cases_order, and_parts, and_from, eqb-true, eq-eqb, or_right}
 use Rattle.std.proofs.lemmas.Int.{ints, by_lt_z}
 use Rattle.std.proofs.lemmas.List.Elements.{All-append, All-weaker}
 use Rattle.std.proofs.lemmas.List.Folds.{Any-from_list_any, list_any-from_Any}
@@ -18,14 +18,15 @@ use Rattle.net_trace.specs.declared.node.Node.{Node}
 use Rattle.net_trace.specs.declared.wiring.Vertex.{Vertex}
 use Rattle.net_trace.specs.Touching.{Cut, Nets, is_node, is_beside, is_along, is_listed, is_cut_at, is_through, touches}
 use Rattle.net_trace.specs.Nets.{node_at}
-use Rattle.net_trace.specs.Wirings.{is_at, corner, vertices_of, IsVertexAt, IsBehind, AreOrdered, is_meeting, is_below, IsBelowPair, AreBands, IsSound, AreShared, IsKept, is_along_wire, AreEdges, AreOneUnder, IsTieOf, AreTied}
-use Rattle.net_trace.proofs.Lists.{all_left, all_right, or_second, or_either}
+use Rattle.net_trace.specs.Wirings.{is_at, corner, vertices_of, IsVertexAt, IsBehind, AreOrdered, is_meeting, is_below, IsBelowPair, AreBands, IsSound, AreShared, IsSharedAlong, is_along_wire, AreEdges, AreOneUnder, IsTieOf, AreTied}
+use Rattle.net_trace.proofs.Lists.{all_left, all_right}
 use Rattle.net_trace.proofs.VertexFacts.{node_of}
 use Rattle.net_trace.proofs.Values.{corner_linked, along_touches}
+use Rattle.mask_region.proofs.Within.{or_cases}
 
 pub record AreEdgesTo (wires : List (List Strip)) (cuts : List Cut) (n : ℕ) (pairs : List (ℕ × ℕ)) : Type 0 where
   pub sound : All (IsSound (record { wires = wires; cuts = cuts; joins = [] }) (vertices_of 0 wires)) pairs
-  pub along : (value : ℕ → ℕ) → AreShared pairs value → IsKept (is_along_wire wires) (vertices_of 0 wires) value
+  pub along : (value : ℕ → ℕ) → AreShared pairs value → IsSharedAlong (is_along_wire wires) (vertices_of 0 wires) value
   pub through : (value : ℕ → ℕ) → AreShared pairs value → (k : ℕ) (c : Cut) → k < n → slice_get cuts k ≡ Some c
       → (from to : ℕ) → is_listed c.wires from ≡ true → is_listed c.wires to ≡ true → AreOneUnder wires c.region value from to
 
@@ -135,7 +136,7 @@ module _ (wires : List (List Strip)) (cuts : List Cut) (ordered : AreOrdered (ve
         (linked_trans (touches nets) a b (corner v) (linked_touch (touches nets) a b (along_touches nets ordered a b step)) (linked_sym (touches nets) (corner v) b (corner_linked nets ordered b e.1 at_b)))
 
   -- strips of touching cells of one wire have one value where the pairs of a band do
-  pub bands_along : (pairs : List (ℕ × ℕ)) → AreBands (vertices_of 0 wires) pairs → (value : ℕ → ℕ) → AreShared pairs value → IsKept (is_along_wire wires) (vertices_of 0 wires) value
+  pub bands_along : (pairs : List (ℕ × ℕ)) → AreBands (vertices_of 0 wires) pairs → (value : ℕ → ℕ) → AreShared pairs value → IsSharedAlong (is_along_wire wires) (vertices_of 0 wires) value
   bands_along pairs h value shared = record {
     kept = λ a b i j at_a at_b is.
         let (nodes, along) = and_parts (is_node nets a && is_node nets b) (is_along a b) is in
@@ -169,7 +170,7 @@ module _ (wires : List (List Strip)) (cuts : List Cut) (ordered : AreOrdered (ve
       let any : list_any (is_cut_at a b) cuts ≡ true = list_any-from_Any (is_cut_at a b) cuts (n, c, slice_get_within cuts n c at, get_or_from_slice_get cuts n c c at, cut) in
       let through : is_through cuts a b ≡ true = and_from (int_eq t.x t.x && int_eq t.y t.y) (list_any (is_cut_at a b) cuts) (same_cell t.x t.y) any in
       let step : touches nets a b ≡ true = and_from (is_node nets a && is_node nets b) (is_along a b || is_through cuts a b)
-      (and_from (is_node nets a) (is_node nets b) (node_of nets a e.0 t.lower) (node_of nets b e.1 t.upper)) (or_second (is_along a b) (is_through cuts a b) through) in
+      (and_from (is_node nets a) (is_node nets b) (node_of nets a e.0 t.lower) (node_of nets b e.1 t.upper)) (or_right (is_along a b) (is_through cuts a b) through) in
       record {
         from = t.lower.vertex;
         to = t.upper.vertex;
@@ -204,7 +205,7 @@ module _ (wires : List (List Strip)) (cuts : List Cut) (ordered : AreOrdered (ve
     whole = λ value shared. record {
       kept = λ a b i j at_a at_b is.
           let (nodes, near) = and_parts (is_node nets a && is_node nets b) (is_along a b || is_through cuts a b) is in
-          elim (or_either (is_along a b) (is_through cuts a b) near) [
+          elim (or_cases (is_along a b) (is_through cuts a b) near) [
             | inl along ↦ (h.along value shared).kept a b i j at_a at_b (and_from (is_node nets a && is_node nets b) (is_along a b) nodes along)
             | inr through ↦ by_cut value shared a b i j at_a at_b through
           ];

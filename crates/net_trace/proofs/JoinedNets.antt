@@ -4,7 +4,7 @@ use Rattle.std.specs.Prelude.{ℤ, pos}
 use Rattle.std.specs.Ordering.{int_eq}
 use Rattle.std.specs.List.{AllZip}
 use Rattle.std.specs.declared.cmp.Ordering.TheVariants.{Less}
-use Rattle.std.proofs.lemmas.Bool.{cases_order, and_parts, and_from, eqb-true, eq-eqb}
+use Rattle.std.proofs.lemmas.Bool.{cases_order, and_parts, and_from, eqb-true, eq-eqb, or_left, or_right}
 use Rattle.std.proofs.lemmas.Int.{ints}
 use Rattle.std.proofs.lemmas.List.Folds.{Any-from_list_any, list_any-from_Any, list_any-append}
 use Rattle.std.proofs.lemmas.Option.{slice_get_within, slice_get_read, slice_get-get_or, get_or_from_slice_get}
@@ -16,12 +16,12 @@ use Rattle.net_trace.specs.declared.node.Node.{Node}
 use Rattle.net_trace.specs.declared.wiring.Vertex.{Vertex}
 use Rattle.net_trace.specs.Touching.{Nets, is_node, touches}
 use Rattle.net_trace.specs.Nets.{node_cmp, is_same, is_joined, is_link}
-use Rattle.net_trace.specs.Wirings.{is_at, corner, vertices_of, AreAllBanded, AreOrdered, IsVertexAt, IsTraced, ArePicked, AreNumbered}
-use Rattle.net_trace.proofs.Lists.{or_first, or_second, or_either}
+use Rattle.net_trace.specs.Wirings.{is_at, corner, vertices_of, AreAllBanded, AreOrdered, IsVertexAt, IsTraced, ArePicked, AreRenumbered}
 use Rattle.net_trace.proofs.VertexLists.{vertices_ordered}
 use Rattle.net_trace.proofs.VertexFacts.{has_corner, node_of, one_vertex}
 use Rattle.net_trace.proofs.TracedNets.{not_before}
 use Rattle.net_trace.proofs.TracedStart.{less_both}
+use Rattle.mask_region.proofs.Within.{or_cases}
 
 -- the nodes of an end are the least ones of the two nets of its pair
 abbrev IsEnd : List Node → ℕ × ℕ → Node × Node → Type 0
@@ -40,7 +40,7 @@ end_of roots (q ∷ pairs) [] k p h at = absurd h
 end_of roots (q ∷ pairs) (f ∷ ends) zero p h at = (f, refl, subst (λ (x : ℕ × ℕ). IsEnd roots x f) (some_one q p at) h.0)
 end_of roots (q ∷ pairs) (f ∷ ends) (suc k) p h at = end_of roots pairs ends k p h.1 at
 
-same_is : (a b : Node) → is_same a b ≡ true → a ≡ b
+pub same_is : (a b : Node) → is_same a b ≡ true → a ≡ b
 same_is a b is =
     let (wire, cell) = and_parts (a.wire == b.wire) (int_eq a.x b.x && int_eq a.y b.y) is in
     let (column, row) = and_parts (int_eq a.x b.x) (int_eq a.y b.y) cell in
@@ -52,14 +52,14 @@ same_is a b is =
     one : (m n : ℤ) → int_eq m n ≡ true → m ≡ n
     one m n h = grind (arith, ints, h)
 
-same_self : (a : Node) → is_same a a ≡ true
+pub same_self : (a : Node) → is_same a a ≡ true
 same_self a = and_from (a.wire == a.wire) (int_eq a.x a.x && int_eq a.y a.y) (eq-eqb a.wire a.wire refl) (cell a.x a.y)
   where
     cell : (x y : ℤ) → (int_eq x x && int_eq y y) ≡ true
     cell x y = grind (arith, ints)
 
 module _ (nets : Nets) (label : List ℕ) (roots : List Node) (banded : AreAllBanded nets.wires) (h : IsTraced nets label roots) (pairs : List (ℕ × ℕ)) (ends : List (Node × Node)) (at_ends : AllZip (IsEnd roots) pairs ends)
-    (second least new_label : List ℕ) (new_roots : List Node) (classes : AreClasses (length roots) (has_pair pairs) second least) (numbered : AreNumbered second label (length label) new_label) (picked : ArePicked roots least (length least) new_roots) where
+    (second least new_label : List ℕ) (new_roots : List Node) (classes : AreClasses (length roots) (has_pair pairs) second least) (numbered : AreRenumbered second label (length label) new_label) (picked : ArePicked roots least (length least) new_roots) where
   abbrev new : Nets
   new = record { wires = nets.wires; cuts = nets.cuts; joins = nets.joins ++ ends }
 
@@ -70,19 +70,19 @@ module _ (nets : Nets) (label : List ℕ) (roots : List Node) (banded : AreAllBa
   no_node = record { wire = 0; x = pos 0; y = pos 0 }
 
   joined_either : (a b : Node) → is_joined (nets.joins ++ ends) a b ≡ true → (is_joined nets.joins a b ≡ true) ⊎ (is_joined ends a b ≡ true)
-  joined_either a b is = or_either (is_joined nets.joins a b) (is_joined ends a b) (sym (list_any-append (λ (j : Node × Node). is_same a j.0 && is_same b j.1) nets.joins ends) ∙ is)
+  joined_either a b is = or_cases (is_joined nets.joins a b) (is_joined ends a b) (sym (list_any-append (λ (j : Node × Node). is_same a j.0 && is_same b j.1) nets.joins ends) ∙ is)
 
   joined_old : (a b : Node) → is_joined nets.joins a b ≡ true → is_joined (nets.joins ++ ends) a b ≡ true
-  joined_old a b is = list_any-append (λ (j : Node × Node). is_same a j.0 && is_same b j.1) nets.joins ends ∙ or_first (is_joined nets.joins a b) (is_joined ends a b) is
+  joined_old a b is = list_any-append (λ (j : Node × Node). is_same a j.0 && is_same b j.1) nets.joins ends ∙ or_left (is_joined nets.joins a b) (is_joined ends a b) is
 
   joined_new : (a b : Node) → is_joined ends a b ≡ true → is_joined (nets.joins ++ ends) a b ≡ true
-  joined_new a b is = list_any-append (λ (j : Node × Node). is_same a j.0 && is_same b j.1) nets.joins ends ∙ or_second (is_joined nets.joins a b) (is_joined ends a b) is
+  joined_new a b is = list_any-append (λ (j : Node × Node). is_same a j.0 && is_same b j.1) nets.joins ends ∙ or_right (is_joined nets.joins a b) (is_joined ends a b) is
 
   kept_link : (a b : Node) → is_link nets a b ≡ true → is_link new a b ≡ true
-  kept_link a b is = elim (or_either (touches nets a b) ((is_node nets a && is_node nets b) && is_joined nets.joins a b) is) [
-    | inl touch ↦ or_first (touches nets a b) ((is_node nets a && is_node nets b) && is_joined (nets.joins ++ ends) a b) touch
+  kept_link a b is = elim (or_cases (touches nets a b) ((is_node nets a && is_node nets b) && is_joined nets.joins a b) is) [
+    | inl touch ↦ or_left (touches nets a b) ((is_node nets a && is_node nets b) && is_joined (nets.joins ++ ends) a b) touch
     | inr join ↦ let (nodes, joined) = and_parts (is_node nets a && is_node nets b) (is_joined nets.joins a b) join in
-        or_second (touches nets a b) ((is_node nets a && is_node nets b) && is_joined (nets.joins ++ ends) a b) (and_from (is_node nets a && is_node nets b) (is_joined (nets.joins ++ ends) a b) nodes (joined_old a b joined))
+        or_right (touches nets a b) ((is_node nets a && is_node nets b) && is_joined (nets.joins ++ ends) a b) (and_from (is_node nets a && is_node nets b) (is_joined (nets.joins ++ ends) a b) nodes (joined_old a b joined))
   ]
 
   kept_linked : (a b : Node) → Linked (is_link nets) a b → Linked (is_link new) a b
@@ -124,7 +124,7 @@ module _ (nets : Nets) (label : List ℕ) (roots : List Node) (banded : AreAllBa
       let to : slice_get roots j ≡ Some e.1 = ap (λ n. slice_get roots n) (sym (eqb-true p.1 j last)) ∙ two_ends.1 in
       let joined : is_joined ends e.0 e.1 ≡ true = list_any-from_Any (λ (x : Node × Node). is_same e.0 x.0 && is_same e.1 x.1) ends
       (k, e, slice_get_within ends k e at_e, get_or_from_slice_get ends k e e at_e, and_from (is_same e.0 e.0) (is_same e.1 e.1) (same_self e.0) (same_self e.1)) in
-      let link : is_link new e.0 e.1 ≡ true = or_second (touches nets e.0 e.1) ((is_node nets e.0 && is_node nets e.1) && is_joined (nets.joins ++ ends) e.0 e.1)
+      let link : is_link new e.0 e.1 ≡ true = or_right (touches nets e.0 e.1) ((is_node nets e.0 && is_node nets e.1) && is_joined (nets.joins ++ ends) e.0 e.1)
       (and_from (is_node nets e.0 && is_node nets e.1) (is_joined (nets.joins ++ ends) e.0 e.1) (and_from (is_node nets e.0) (is_node nets e.1) (root_node i e.0 from) (root_node j e.1 to)) (joined_new e.0 e.1 joined)) in
       subst (λ (x : Node). Linked (is_link new) x (get_or roots j no_node)) (sym (get_or_from_slice_get roots i e.0 no_node from))
       (subst (λ (x : Node). Linked (is_link new) e.0 x) (sym (get_or_from_slice_get roots j e.1 no_node to)) (linked_touch (is_link new) e.0 e.1 link))
@@ -171,10 +171,10 @@ module _ (nets : Nets) (label : List ℕ) (roots : List Node) (banded : AreAllBa
     rising = λ j k q r lt at_q at_r. h.rising (slice_index least j) (slice_index least k) q r (classes.rising j k lt (picked_in k r at_r)) (picked_from j q at_q) (picked_from k r at_r);
   } where
     one : (a b : Node) (i j : ℕ) → IsVertexAt (vertices_of 0 nets.wires) a i → IsVertexAt (vertices_of 0 nets.wires) b j → is_link new a b ≡ true → slice_index second (slice_index label i) ≡ slice_index second (slice_index label j)
-    one a b i j at_a at_b is = elim (or_either (touches nets a b) ((is_node nets a && is_node nets b) && is_joined (nets.joins ++ ends) a b) is) [
-      | inl touch ↦ ap (λ n. slice_index second n) (h.shared.kept a b i j at_a at_b (or_first (touches nets a b) ((is_node nets a && is_node nets b) && is_joined nets.joins a b) touch))
+    one a b i j at_a at_b is = elim (or_cases (touches nets a b) ((is_node nets a && is_node nets b) && is_joined (nets.joins ++ ends) a b) is) [
+      | inl touch ↦ ap (λ n. slice_index second n) (h.shared.kept a b i j at_a at_b (or_left (touches nets a b) ((is_node nets a && is_node nets b) && is_joined nets.joins a b) touch))
       | inr join ↦ let (nodes, joined) = and_parts (is_node nets a && is_node nets b) (is_joined (nets.joins ++ ends) a b) join in elim (joined_either a b joined) [
-        | inl old ↦ ap (λ n. slice_index second n) (h.shared.kept a b i j at_a at_b (or_second (touches nets a b) ((is_node nets a && is_node nets b) && is_joined nets.joins a b) (and_from (is_node nets a && is_node nets b) (is_joined nets.joins a b) nodes old)))
+        | inl old ↦ ap (λ n. slice_index second n) (h.shared.kept a b i j at_a at_b (or_right (touches nets a b) ((is_node nets a && is_node nets b) && is_joined nets.joins a b) (and_from (is_node nets a && is_node nets b) (is_joined nets.joins a b) nodes old)))
         | inr more ↦ ends_one a b i j at_a at_b more
       ]
     ]

@@ -6,7 +6,7 @@ use Rattle.std.proofs.lemmas.List.{length_push, take_more, take_all, get_or_push
 use Rattle.std.proofs.lemmas.Option.{slice_get-get_or, get_or_from_slice_get}
 use Rattle.net_trace.specs.declared.node.Node.{Node}
 use Rattle.net_trace.specs.declared.wiring.Vertex.{Vertex}
-use Rattle.net_trace.specs.Wirings.{corner, AreCorners, ArePicked, AreNumbered, AreEndsOf}
+use Rattle.net_trace.specs.Wirings.{corner, AreCorners, ArePicked, AreRenumbered, AreEndsOf}
 use Rattle.net_trace.proofs.Lists.{none_more}
 use Rattle.net_trace.proofs.VertexLists.{get_right}
 
@@ -52,10 +52,10 @@ picked_more from indices n nodes new d e lt inside is h = record {
   by_place k (inr (inl before)) less = get_before nodes k (get_or from (get_or indices n d) e) (omega (arith, before, h.each)) ∙ h.at k before
   by_place k (inr (inr after)) less = absurd (omega (arith, less, after))
 
-pub numbered_none : (second label new : List ℕ) → new ≡ [] → AreNumbered second label 0 new
+pub numbered_none : (second label new : List ℕ) → new ≡ [] → AreRenumbered second label 0 new
 numbered_none second label new is = record { each = ap (λ l. length l) is; at = λ k lt. absurd (omega (arith, lt)) }
 
-pub numbered_more : (second label : List ℕ) (n : ℕ) (old new : List ℕ) (d e : ℕ) → n < length label → get_or label n d < length second → new ≡ old ++ get_or second (get_or label n d) e ∷ [] → AreNumbered second label n old → AreNumbered second label (n + 1) new
+pub numbered_more : (second label : List ℕ) (n : ℕ) (old new : List ℕ) (d e : ℕ) → n < length label → get_or label n d < length second → new ≡ old ++ get_or second (get_or label n d) e ∷ [] → AreRenumbered second label n old → AreRenumbered second label (n + 1) new
 numbered_more second label n old new d e lt inside is h = record {
   each = ap (λ l. length l) is ∙ length_push old (get_or second (get_or label n d) e) ∙ ap (λ m. m + 1) h.each;
   at = λ k less. ap (λ l. slice_index l k) is ∙ by_place k (cases_order k n) less;

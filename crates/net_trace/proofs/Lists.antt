@@ -1,7 +1,9 @@
 -- Facts of all elements of two lists that are put together.
-use Rattle.std.proofs.Common.{◌≡◌, List, [], ◌∷◌, ◌++◌, refl, ap, Bool, true, false, ◌||◌, ◌⊎◌, inl, inr}
-use Rattle.std.specs.List.{All, AllByRecursion}
+use Rattle.std.proofs.Common.{◌≡◌, ℕ, ◌+◌, ◌<◌, List, [], ◌∷◌, ◌++◌, refl, sym, ap, ◌∙◌, Bool, true, false, ◌⊎◌, arith}
+use Rattle.std.specs.List.{All, AllByRecursion, range_with_len}
 use Rattle.std.proofs.lemmas.List.Elements.{All-from_recursion, recursion_from_All}
+use Rattle.std.proofs.lemmas.List.{map-id}
+use Rattle.std.proofs.lemmas.List.FromFn.{map-range_with_len_more}
 
 pub none_more : {A : Type 0} (xs : List A) → xs ≡ xs ++ []
 none_more [] = refl
@@ -24,18 +26,15 @@ all_right P xs ys h = All-from_recursion P ys (right_part P xs ys (recursion_fro
 pub all_last : {A : Type 0} (P : A → Type 0) (xs : List A) (x : A) → All P (xs ++ x ∷ []) → P x
 all_last P xs x h = (recursion_from_All P (x ∷ []) (all_right P xs (x ∷ []) h)).0
 
-pub or_first : (p q : Bool) → p ≡ true → (p || q) ≡ true
-or_first true q h = refl
-or_first false true h = refl
-or_first false false h = h
-
-pub or_second : (p q : Bool) → q ≡ true → (p || q) ≡ true
-or_second true q h = refl
-or_second false q h = h
-
-pub or_either : (p q : Bool) → (p || q) ≡ true → (p ≡ true) ⊎ (q ≡ true)
-or_either true q h = inl refl
-or_either false q h = inr h
-
 pub not_both_ways : {P : Type 0} (b : Bool) → b ≡ true → b ≡ false → P
 not_both_ways b is not = let none : ⊥ = cc in absurd none
+
+-- ---- numbers
+
+pub last_or_before : (j k : ℕ) → j < k + 1 → (j < k) ⊎ (j ≡ k)
+last_or_before j k lt = grind arith
+
+-- the numbers in a row, and one more
+pub range_more : (a n j : ℕ) → a + n ≡ j → range_with_len a (n + 1) ≡ range_with_len a n ++ j ∷ []
+range_more a n j e =
+    sym (map-id (range_with_len a (n + 1))) ∙ map-range_with_len_more (λ (x : ℕ). x) a n j e ∙ ap (λ xs. xs ++ j ∷ []) (map-id (range_with_len a n))

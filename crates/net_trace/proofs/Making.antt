@@ -13,9 +13,9 @@ use Rattle.mask_region.specs.Strips.{MaskLists}
 use Rattle.switch_net.specs.declared.NetId.{NetId}
 use Rattle.net_trace.specs.declared.node.Node.{Node}
 use Rattle.net_trace.specs.declared.wiring.Vertex.{Vertex}
-use Rattle.net_trace.specs.Touching.{Cut, Nets, cuts_of, traced_nets}
+use Rattle.net_trace.specs.Touching.{Cut, Nets, cuts_of, traced_nets, cuts_with}
 use Rattle.net_trace.specs.Nets.{IsJoinedBy, HasMoreNets}
-use Rattle.net_trace.specs.Wirings.{vertices_of, AreAllBanded, AreEdges, IsTraced, AreCorners, ArePicked, AreNumbered, AreEndsOf, cuts_with}
+use Rattle.net_trace.specs.Wirings.{vertices_of, AreAllBanded, AreEdges, IsTraced, AreCorners, ArePicked, AreRenumbered, AreEndsOf}
 use Rattle.net_trace.proofs.NetNumbers.{net_count}
 use Rattle.net_trace.proofs.TracedNets.{roots_are, count_of}
 use Rattle.net_trace.proofs.TracedStart.{traced_start}
@@ -82,7 +82,7 @@ pub whole_ends : (roots : List Node) (pairs : List (ℕ × ℕ)) (old new : List
 whole_ends roots pairs old new h = subst (λ (l : List (ℕ × ℕ)). AllZip (λ (p : ℕ × ℕ) (e : Node × Node). (slice_get roots p.0 ≡ Some e.0) × (slice_get roots p.1 ≡ Some e.1)) l h.ends) (take_all (length pairs) pairs (omega arith)) h.at
 
 pub joined_made : (nets : Nets) (label : List ℕ) (roots : List Node) (pairs : List (ℕ × ℕ)) (joins : List (Node × Node)) (second least new_label : List ℕ) (new_roots : List Node) → AreAllBanded nets.wires → IsTraced nets label roots
-    → AreEndsOf roots pairs (length pairs) nets.joins joins → AreClasses (length roots) (has_pair pairs) second least → AreNumbered second label (length label) new_label → ArePicked roots least (length least) new_roots
+    → AreEndsOf roots pairs (length pairs) nets.joins joins → AreClasses (length roots) (has_pair pairs) second least → AreRenumbered second label (length label) new_label → ArePicked roots least (length least) new_roots
     → IsTraced (record { wires = nets.wires; cuts = nets.cuts; joins = joins }) new_label new_roots
 joined_made nets label roots pairs joins second least new_label new_roots banded h ends classes numbered picked =
     subst (λ (j : List (Node × Node)). IsTraced (record { wires = nets.wires; cuts = nets.cuts; joins = j }) new_label new_roots) (sym ends.added)
@@ -112,8 +112,8 @@ ends_moved roots roots' pairs pairs' old new is_roots is_pairs h = subst (λ (r 
 pub classes_moved : (size size' : ℕ) (pairs pairs' : List (ℕ × ℕ)) (label least : List ℕ) → size ≡ size' → pairs ≡ pairs' → AreClasses size (has_pair pairs) label least → AreClasses size' (has_pair pairs') label least
 classes_moved size size' pairs pairs' label least is_size is_pairs h = subst (λ n. AreClasses n (has_pair pairs') label least) is_size (subst (λ (p : List (ℕ × ℕ)). AreClasses size (has_pair p) label least) is_pairs h)
 
-pub numbered_moved : (second second' label label' new : List ℕ) → second ≡ second' → label ≡ label' → AreNumbered second label (length label) new → AreNumbered second' label' (length label') new
-numbered_moved second second' label label' new is_second is_label h = subst (λ (s : List ℕ). AreNumbered s label' (length label') new) is_second (subst (λ (l : List ℕ). AreNumbered second l (length l) new) is_label h)
+pub numbered_moved : (second second' label label' new : List ℕ) → second ≡ second' → label ≡ label' → AreRenumbered second label (length label) new → AreRenumbered second' label' (length label') new
+numbered_moved second second' label label' new is_second is_label h = subst (λ (s : List ℕ). AreRenumbered s label' (length label') new) is_second (subst (λ (l : List ℕ). AreRenumbered second l (length l) new) is_label h)
 
 pub picked_moved : (from from' : List Node) (indices indices' : List ℕ) (nodes : List Node) → from ≡ from' → indices ≡ indices' → ArePicked from indices (length indices) nodes → ArePicked from' indices' (length indices') nodes
 picked_moved from from' indices indices' nodes is_from is_indices h = subst (λ (f : List Node). ArePicked f indices' (length indices') nodes) is_from (subst (λ (i : List ℕ). ArePicked from i (length i) nodes) is_indices h)

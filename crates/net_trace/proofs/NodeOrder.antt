@@ -14,6 +14,7 @@ use Rattle.net_trace.specs.declared.node.Node.{Node}
 use Rattle.net_trace.specs.declared.wiring.Vertex.{Vertex}
 use Rattle.net_trace.specs.Nets.{node_cmp}
 use Rattle.net_trace.specs.Wirings.{is_at, corner, IsBehind}
+use Rattle.link_classes.proofs.TableNumbers.{nat_less}
 
 pub node_total : IsTotalOrder node_cmp
 node_total = then_total (on_total (λ (a : Node). a.wire) nat_cmp_total) (then_total (on_total (λ (a : Node). a.y) int_cmp_total) (on_total (λ (a : Node). a.x) int_cmp_total))
@@ -38,14 +39,6 @@ node_equal a b is =
     let same_y : a.y ≡ b.y = int_ranked a.y b.y Equal (sym row) in
     let same_x : a.x ≡ b.x = int_ranked a.x b.x Equal (sym column) in
     λ i. record { wire = same_wire i; x = same_x i; y = same_y i }
-
-nat_less : (m n : ℕ) → m < n → nat_cmp m n ≡ Less
-nat_less m n lt = by_nat (nat_cmp m n) refl
-  where
-    by_nat : (o : Ordering) → nat_cmp m n ≡ o → nat_cmp m n ≡ Less
-    by_nat Less is = is
-    by_nat Equal is = let e : m ≡ n = ranked m n Equal (sym is) in absurd (omega (arith, lt, e))
-    by_nat Greater is = let e : n < m = ranked m n Greater (sym is) in absurd (omega (arith, lt, e))
 
 nat_same : (m n : ℕ) → m ≡ n → nat_cmp m n ≡ Equal
 nat_same m n same = by_nat (nat_cmp m n) refl

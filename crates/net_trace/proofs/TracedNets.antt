@@ -5,7 +5,7 @@ use Rattle.std.specs.List.{All}
 use Rattle.std.specs.declared.cmp.Ordering.{Ordering}
 use Rattle.std.specs.declared.cmp.Ordering.TheVariants.{Less, Equal, Greater}
 use Rattle.std.specs.Ordering.{ordering_reverse}
-use Rattle.std.proofs.lemmas.Bool.{and_parts, and_from, eqb-true, eq-eqb}
+use Rattle.std.proofs.lemmas.Bool.{and_parts, and_from, eqb-true, eq-eqb, or_left}
 use Rattle.std.proofs.lemmas.Option.{slice_get_within, slice_get-get_or, get_or_from_slice_get}
 use Rattle.link_classes.specs.Linked.{Linked}
 use Rattle.link_classes.proofs.Chains.{linked_refl, linked_touch, linked_trans, linked_sym, linked_map, linked_kept}
@@ -17,13 +17,13 @@ use Rattle.net_trace.specs.declared.wiring.Vertex.{Vertex}
 use Rattle.net_trace.specs.Touching.{Nets, is_node, is_along, is_through, touches}
 use Rattle.net_trace.specs.Nets.{node_cmp, is_joined, is_link, AreNetRoots, IsNetNumber, IsNetCount, node_at, IsRegionOf, AreRegionsOf}
 use Rattle.net_trace.specs.Wirings.{is_at, corner, vertices_of, AreAllBanded, IsVertexAt, AreOrdered, IsTraced, AreParts}
-use Rattle.net_trace.proofs.Lists.{or_first, or_either}
 use Rattle.net_trace.proofs.VertexLists.{vertices_ordered, of_wire}
 use Rattle.net_trace.proofs.VertexFacts.{in_region, strip_with, node_vertex, node_of, has_corner}
 use Rattle.net_trace.proofs.Values.{linked_value, corner_linked}
 use Rattle.net_trace.proofs.Filling.{place_in}
 use Rattle.net_trace.proofs.NetNumbers.{net_one}
 use Rattle.net_trace.proofs.NodeOrder.{node_total, node_equal, corner_least}
+use Rattle.mask_region.proofs.Within.{or_cases}
 
 -- ---- order
 
@@ -43,7 +43,7 @@ not_before a b c ba ac bc = by_order (node_cmp b a) refl
 
 module _ (nets : Nets) where
   pub link_nodes : (a b : Node) → is_link nets a b ≡ true → (is_node nets a ≡ true) × (is_node nets b ≡ true)
-  link_nodes a b is = elim (or_either (touches nets a b) ((is_node nets a && is_node nets b) && is_joined nets.joins a b) is) [
+  link_nodes a b is = elim (or_cases (touches nets a b) ((is_node nets a && is_node nets b) && is_joined nets.joins a b) is) [
     | inl touch ↦ let (nodes, near) = and_parts (is_node nets a && is_node nets b) (is_along a b || is_through nets.cuts a b) touch in and_parts (is_node nets a) (is_node nets b) nodes
     | inr join ↦ let (nodes, joined) = and_parts (is_node nets a && is_node nets b) (is_joined nets.joins a b) join in and_parts (is_node nets a) (is_node nets b) nodes
   ]
@@ -52,7 +52,7 @@ module _ (nets : Nets) where
   linked_node a b node linked = sym (linked_kept (is_link nets) (λ c. is_node nets c) (λ c d is. let (p, q) = link_nodes c d is in p ∙ sym q) a b linked) ∙ node
 
   pub touch_link : (a b : Node) → touches nets a b ≡ true → is_link nets a b ≡ true
-  touch_link a b is = or_first (touches nets a b) ((is_node nets a && is_node nets b) && is_joined nets.joins a b) is
+  touch_link a b is = or_left (touches nets a b) ((is_node nets a && is_node nets b) && is_joined nets.joins a b) is
 
   pub touch_linked : (a b : Node) → Linked (touches nets) a b → Linked (is_link nets) a b
   touch_linked a b linked = linked_map (touches nets) (is_link nets) (λ c. c) (λ c d is. linked_touch (is_link nets) c d (touch_link c d is)) a b linked

@@ -16,10 +16,11 @@ use Rattle.net_trace.specs.declared.wiring.Vertex.{Vertex}
 use Rattle.net_trace.specs.Touching.{Cut, Nets, is_node, touches}
 use Rattle.net_trace.specs.Nets.{node_cmp, is_joined, is_link}
 use Rattle.net_trace.specs.Wirings.{corner, vertices_of, AreAllBanded, AreOrdered, AreShared, IsSound, AreEdges, IsTraced, AreCorners}
-use Rattle.net_trace.proofs.Lists.{or_either}
 use Rattle.net_trace.proofs.VertexLists.{vertices_ordered}
 use Rattle.net_trace.proofs.TracedNets.{touch_linked}
 use Rattle.net_trace.proofs.NodeOrder.{node_total, corner_before}
+use Rattle.mask_region.proofs.Within.{or_cases}
+use Rattle.link_classes.proofs.Pairs.{has_own}
 
 abbrev pub no_vertex : Vertex
 no_vertex = record { wire = 0; strip = record { y0 = pos 0; y1 = pos 0; x0 = pos 0; x1 = pos 0 } }
@@ -27,14 +28,9 @@ no_vertex = record { wire = 0; strip = record { y0 = pos 0; y1 = pos 0; x0 = pos
 pub less_both : {P : Type 0} (a b : Node) → node_cmp a b ≡ Less → node_cmp b a ≡ Less → P
 less_both a b ab ba = let back : Less ≡ Greater = sym ba ∙ node_total.antisymm b a ∙ ap (λ o. ordering_reverse o) ab in let none : ⊥ = cc in absurd none
 
-pub has_at : (pairs : List (ℕ × ℕ)) (k : ℕ) (d : ℕ × ℕ) → k < length pairs → has_pair pairs (get_or pairs k d).0 (get_or pairs k d).1 ≡ true
-has_at pairs k d lt =
-    let p : ℕ × ℕ = get_or pairs k d in
-    list_any_at (λ (q : ℕ × ℕ). q.0 == p.0 && q.1 == p.1) pairs k d lt (and_from (p.0 == p.0) (p.1 == p.1) (eq-eqb p.0 p.0 refl) (eq-eqb p.1 p.1 refl))
-
 -- what labels of classes share is shared on each pair
 pub classes_shared : (size : ℕ) (pairs : List (ℕ × ℕ)) (label least : List ℕ) → AreClasses size (has_pair pairs) label least → AreShared pairs (λ k. slice_index label k)
-classes_shared size pairs label least h k d lt = h.shared (get_or pairs k d).0 (get_or pairs k d).1 (has_at pairs k d lt)
+classes_shared size pairs label least h k d lt = h.shared (get_or pairs k d).0 (get_or pairs k d).1 (has_own pairs k d lt)
 
 module _ (wires : List (List Strip)) (cuts : List Cut) (banded : AreAllBanded wires) (pairs : List (ℕ × ℕ)) (label least : List ℕ) (roots : List Node)
     (edges : AreEdges (record { wires = wires; cuts = cuts; joins = [] }) (vertices_of 0 wires) pairs) (classes : AreClasses (length (vertices_of 0 wires)) (has_pair pairs) label least)
@@ -102,7 +98,7 @@ module _ (wires : List (List Strip)) (cuts : List Cut) (banded : AreAllBanded wi
         (corner_before u v (ordered.strip (slice_index least j) u (at_least j j_in)) (ordered.behind (slice_index least j) (slice_index least k) u v (classes.rising j k lt k_in) (at_least j j_in) (at_least k k_in))));
   } where
     touch_of : (a b : Node) → is_link nets a b ≡ true → touches nets a b ≡ true
-    touch_of a b is = elim (or_either (touches nets a b) ((is_node nets a && is_node nets b) && is_joined [] a b) is) [
+    touch_of a b is = elim (or_cases (touches nets a b) ((is_node nets a && is_node nets b) && is_joined [] a b) is) [
       | inl touch ↦ touch
       | inr join ↦ let (nodes, none) = and_parts (is_node nets a && is_node nets b) (is_joined [] a b) join in absurd (let no : ⊥ = cc in no)
     ]

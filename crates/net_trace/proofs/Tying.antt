@@ -12,7 +12,7 @@ use Rattle.mask_region.specs.declared.strips.Strip.{Strip}
 use Rattle.mask_region.specs.Strips.{is_in_strip, is_in, IsStrip, Banded}
 use Rattle.net_trace.specs.Touching.{Nets, Cut, is_in_wire, is_listed}
 use Rattle.net_trace.specs.Nets.{node_at}
-use Rattle.net_trace.specs.Wirings.{vertices_of, IsVertexAt, AreOrdered, AreShared, IsKept, is_along_wire, IsTie, AreOneUnder, AreTiedBy, IsTieOf, AreTied}
+use Rattle.net_trace.specs.Wirings.{vertices_of, IsVertexAt, AreOrdered, AreShared, IsSharedAlong, is_along_wire, IsTie, AreOneUnder, AreTiedBy, IsTieOf, AreTied}
 use Rattle.net_trace.proofs.Lists.{none_more, all_left, all_right, all_last, not_both_ways}
 use Rattle.net_trace.proofs.VertexLists.{strip_in}
 use Rattle.net_trace.proofs.VertexFacts.{in_region, strip_with, node_vertex, node_of, one_vertex}
@@ -32,7 +32,7 @@ pub record IsTyingAll (wires : List (List Strip)) (cut : Cut) (m n : ℕ) (old n
   pub more : List (ℕ × ℕ)
   pub added : new ≡ old ++ more
   pub ties : All (IsTieOf wires cut) more
-  pub whole : (value : ℕ → ℕ) → IsKept (is_along_wire wires) (vertices_of 0 wires) value → AreShared more value → (p q from to : ℕ) → (p < m) ⊎ ((p ≡ m) × (q < n))
+  pub whole : (value : ℕ → ℕ) → IsSharedAlong (is_along_wire wires) (vertices_of 0 wires) value → AreShared more value → (p q from to : ℕ) → (p < m) ⊎ ((p ≡ m) × (q < n))
       → slice_get cut.wires p ≡ Some from → slice_get cut.wires q ≡ Some to → from < to → AreOneUnder wires cut.region value from to
 
 module _ (wires : List (List Strip)) (region : List Strip) (first second : ℕ) (common : List Strip) where
@@ -140,7 +140,7 @@ module _ (wires : List (List Strip)) (ordered : AreOrdered (vertices_of 0 wires)
   corner_through k s at has = (part s.x0 s.y0 (in_region common k s s.x0 s.y0 at has)).0
 
   -- at each of the common cells the value of a wire's strip is that at the corner of a common strip
-  side : (w : ℕ) (value : ℕ → ℕ) → IsKept (is_along_wire wires) (vertices_of 0 wires) value → (k : ℕ) (s : Strip) (x y : ℤ) (i : ℕ) → ((a b : ℤ) → is_in common a b ≡ true → is_in_wire (slice_get wires w) a b ≡ true)
+  side : (w : ℕ) (value : ℕ → ℕ) → IsSharedAlong (is_along_wire wires) (vertices_of 0 wires) value → (k : ℕ) (s : Strip) (x y : ℤ) (i : ℕ) → ((a b : ℤ) → is_in common a b ≡ true → is_in_wire (slice_get wires w) a b ≡ true)
       → slice_get common k ≡ Some s → is_in_strip s x y ≡ true → IsVertexAt (vertices_of 0 wires) (node_at w x y) i
       → (j : ℕ) × IsVertexAt (vertices_of 0 wires) (node_at w s.x0 s.y0) j × (value j ≡ value i)
   side w value kept k s x y i cells at has at_i =

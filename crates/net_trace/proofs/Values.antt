@@ -1,7 +1,7 @@
 -- Linked nodes of a wire lie in strips of one value, where touching ones do.
 use Rattle.std.proofs.Common.{◌≡◌, ℕ, ◌<◌, Bool, true, ◌&&◌, ◌||◌, ◌==◌, List, length, sym, ap, ◌∙◌, subst, arith, inl, inr, slice_get, get_or, Some}
 use Rattle.std.specs.List.{position_or_len}
-use Rattle.std.proofs.lemmas.Bool.{cases_lt, and_parts, and_from, eqb-true}
+use Rattle.std.proofs.lemmas.Bool.{cases_lt, and_parts, and_from, eqb-true, or_left}
 use Rattle.std.proofs.lemmas.List.Sums.{fails_before_first, passes_at_first}
 use Rattle.std.proofs.lemmas.Option.{slice_get_within, slice_get-get_or, get_or_from_slice_get}
 use Rattle.link_classes.specs.Linked.{Linked}
@@ -11,8 +11,8 @@ use Rattle.net_trace.specs.declared.node.Node.{Node}
 use Rattle.net_trace.specs.declared.wiring.Vertex.{Vertex}
 use Rattle.net_trace.specs.Touching.{Nets, is_in_wire, is_node, is_along, is_through, touches}
 use Rattle.net_trace.specs.Nets.{node_at}
-use Rattle.net_trace.specs.Wirings.{is_at, corner, vertices_of, IsVertexAt, AreOrdered, IsKept, is_along_wire}
-use Rattle.net_trace.proofs.Lists.{or_first, not_both_ways}
+use Rattle.net_trace.specs.Wirings.{is_at, corner, vertices_of, IsVertexAt, AreOrdered, IsSharedAlong, is_along_wire}
+use Rattle.net_trace.proofs.Lists.{not_both_ways}
 use Rattle.net_trace.proofs.VertexLists.{of_wire}
 use Rattle.net_trace.proofs.VertexFacts.{in_region, wire_has, node_vertex, one_vertex}
 use Rattle.net_trace.proofs.Rectangles.{rectangle_linked}
@@ -35,7 +35,7 @@ index_is vertices a i ordered h =
 
 module _ (nets : Nets) (ordered : AreOrdered (vertices_of 0 nets.wires)) where
   -- what is kept where nodes touch is kept where they are linked
-  pub linked_value : (link : Node → Node → Bool) (value : ℕ → ℕ) → ((a b : Node) → link a b ≡ true → (is_node nets a ≡ true) × (is_node nets b ≡ true)) → IsKept link (vertices_of 0 nets.wires) value
+  pub linked_value : (link : Node → Node → Bool) (value : ℕ → ℕ) → ((a b : Node) → link a b ≡ true → (is_node nets a ≡ true) × (is_node nets b ≡ true)) → IsSharedAlong link (vertices_of 0 nets.wires) value
       → (a b : Node) (i j : ℕ) → Linked link a b → IsVertexAt (vertices_of 0 nets.wires) a i → IsVertexAt (vertices_of 0 nets.wires) b j → value i ≡ value j
   linked_value link value nodes kept a b i j linked at_a at_b =
       ap value (sym (index_is (vertices_of 0 nets.wires) a i ordered at_a))
@@ -57,7 +57,7 @@ module _ (nets : Nets) (ordered : AreOrdered (vertices_of 0 nets.wires)) where
   pub along_touches : (a b : Node) → is_along_wire nets.wires a b ≡ true → touches nets a b ≡ true
   along_touches a b is =
       let (nodes, beside) = and_parts (is_node nets a && is_node nets b) (is_along a b) is in
-      and_from (is_node nets a && is_node nets b) (is_along a b || is_through nets.cuts a b) nodes (or_first (is_along a b) (is_through nets.cuts a b) beside)
+      and_from (is_node nets a && is_node nets b) (is_along a b || is_through nets.cuts a b) nodes (or_left (is_along a b) (is_through nets.cuts a b) beside)
 
   -- each node of a strip is linked to its least one
   pub corner_along : (a : Node) (i : ℕ) (h : IsVertexAt (vertices_of 0 nets.wires) a i) → Linked (is_along_wire nets.wires) (corner h.vertex) a

@@ -15,9 +15,9 @@ use Rattle.mask_region.specs.Strips.{is_in}
 use Rattle.net_trace.specs.declared.node.Node.{Node}
 use Rattle.net_trace.specs.Touching.{Cut, Nets, has_node, is_beside, is_along, is_through, is_node, touches}
 use Rattle.net_trace.specs.Nets.{node_cmp, node_at, is_joined, is_link, AreNetRoots, IsNetNumber, IsNetCount, IsRegionOf, IsJoinedBy}
-use Rattle.net_trace.proofs.Lists.{or_either}
 use Rattle.net_trace.proofs.NetNumbers.{net_count}
 use Rattle.net_trace.proofs.TracedNets.{linked_node}
+use Rattle.mask_region.proofs.Within.{or_cases}
 
 strip : ℤ → ℤ → ℤ → ℤ → Strip
 strip x0 y0 x1 y1 = record { y0 = y0; y1 = y1; x0 = x0; x1 = x1 }
@@ -195,8 +195,8 @@ no_node_no_net n number = impossible (sym number.thing)
 -- without the cut they are two
 wire_kept : (a b : Node) → is_link apart a b ≡ true → a.wire ≡ b.wire
 unfolding apart drawn
-wire_kept a b link = elim (or_either (touches apart a b) ((is_node apart a && is_node apart b) && is_joined [] a b) link) [
-  | inl touch ↦ elim (or_either (is_along a b) (is_through [] a b) (and_parts (is_node apart a && is_node apart b) (is_along a b || is_through [] a b) touch).1) [
+wire_kept a b link = elim (or_cases (touches apart a b) ((is_node apart a && is_node apart b) && is_joined [] a b) link) [
+  | inl touch ↦ elim (or_cases (is_along a b) (is_through [] a b) (and_parts (is_node apart a && is_node apart b) (is_along a b || is_through [] a b) touch).1) [
     | inl along ↦ eqb-true a.wire b.wire (and_parts (a.wire == b.wire) (is_beside a.x a.y b.x b.y) along).0
     | inr through ↦ impossible (sym (and_parts (int_eq a.x b.x && int_eq a.y b.y) false through).1)
   ]

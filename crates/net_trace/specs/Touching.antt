@@ -20,9 +20,13 @@ pub record Nets : Type 0 where
   pub cuts : List Cut
   pub joins : List (Node × Node)
 
+-- the cuts with these regions and lists of wires
+abbrev pub cuts_with : List (List Strip) → List (List ℕ) → List Cut
+cuts_with regions lists = map (λ p. record { region = p.0; wires = p.1 }) (zip regions lists)
+
 -- the cuts of a map, with their masks
 abbrev pub cuts_of : Plan → MaskLists → List Cut
-cuts_of plan masks = map (λ p. record { region = p.0; wires = p.1 }) (zip masks.cuts (map (λ c. c.wires) plan.cuts))
+cuts_of plan masks = cuts_with masks.cuts (map (λ c. c.wires) plan.cuts)
 
 -- the wires and cuts of a map with these masks, where nothing is joined
 abbrev pub traced_nets : Plan → MaskLists → Nets

@@ -1,5 +1,5 @@
 -- The strips of all wires in one list, and what the tracing keeps of them. No promise cites these words.
-use Rattle.std.specs.Prelude.{◌≡◌, ℕ, ◌+◌, ◌*◌, ◌<◌, ◌==◌, ◌&&◌, ◌||◌, ◌⊎◌, ℤ, int_lt, nat_lt, Bool, true, List, [], ◌∷◌, ◌++◌, length, map, zip, take, slice_get, slice_index, Some}
+use Rattle.std.specs.Prelude.{◌≡◌, ℕ, ◌+◌, ◌*◌, ◌<◌, ◌==◌, ◌&&◌, ◌||◌, ◌⊎◌, ℤ, int_lt, nat_lt, Bool, true, List, [], ◌∷◌, ◌++◌, length, map, take, slice_get, slice_index, Some}
 use Rattle.std.specs.List.{All, AllZip}
 use Rattle.std.specs.Ordering.{int_eq}
 use Rattle.std.specs.declared.cmp.Ordering.TheVariants.{Less}
@@ -98,7 +98,7 @@ abbrev pub AreShared : List (ℕ × ℕ) → (ℕ → ℕ) → Type 0
 AreShared pairs value = All (λ p. value p.0 ≡ value p.1) pairs
 
 -- Strips with nodes that touch have one value.
-pub record IsKept (link : Node → Node → Bool) (vertices : List Vertex) (value : ℕ → ℕ) : Type 0 where
+pub record IsSharedAlong (link : Node → Node → Bool) (vertices : List Vertex) (value : ℕ → ℕ) : Type 0 where
   pub kept : (a b : Node) (i j : ℕ) → IsVertexAt vertices a i → IsVertexAt vertices b j → link a b ≡ true → value i ≡ value j
 
 -- they are nodes, and touch along a wire
@@ -108,14 +108,14 @@ is_along_wire wires a b = let nets : Nets = record { wires = wires; cuts = []; j
 -- The pairs link exactly the strips that touching nodes link.
 pub record AreEdges (nets : Nets) (vertices : List Vertex) (pairs : List (ℕ × ℕ)) : Type 0 where
   pub sound : All (IsSound nets vertices) pairs
-  pub whole : (value : ℕ → ℕ) → AreShared pairs value → IsKept (touches nets) vertices value
+  pub whole : (value : ℕ → ℕ) → AreShared pairs value → IsSharedAlong (touches nets) vertices value
 
 -- ---- traced nets
 
 -- The label of a strip is the number of its net, and the roots are the least nodes of the nets.
 pub record IsTraced (nets : Nets) (label : List ℕ) (roots : List Node) : Type 0 where
   pub each : length label ≡ length (vertices_of 0 nets.wires)
-  pub shared : IsKept (is_link nets) (vertices_of 0 nets.wires) (λ i. slice_index label i)
+  pub shared : IsSharedAlong (is_link nets) (vertices_of 0 nets.wires) (λ i. slice_index label i)
   pub reached : (i : ℕ) (u : Vertex) → slice_get (vertices_of 0 nets.wires) i ≡ Some u
       → (root : Node) × (slice_get roots (slice_index label i) ≡ Some root) × Linked (is_link nets) root (corner u) × (node_cmp (corner u) root ≡ Less → ⊥)
   pub own : (k : ℕ) (root : Node) → slice_get roots k ≡ Some root
@@ -153,7 +153,7 @@ pub record AreTiedBy (wires : List (List Strip)) (region : List Strip) (first se
   pub more : List (ℕ × ℕ)
   pub added : new ≡ old ++ more
   pub ties : All (IsTie wires region first second) more
-  pub whole : (value : ℕ → ℕ) → IsKept (is_along_wire wires) (vertices_of 0 wires) value → AreShared more value → AreOneUnder wires region value first second
+  pub whole : (value : ℕ → ℕ) → IsSharedAlong (is_along_wire wires) (vertices_of 0 wires) value → AreShared more value → AreOneUnder wires region value first second
 
 -- The pair is tied by the cut.
 pub record IsTieOf (wires : List (List Strip)) (cut : Cut) (e : ℕ × ℕ) : Type 0 where
@@ -168,14 +168,8 @@ pub record AreTied (wires : List (List Strip)) (cut : Cut) (old new : List (ℕ 
   pub more : List (ℕ × ℕ)
   pub added : new ≡ old ++ more
   pub ties : All (IsTieOf wires cut) more
-  pub whole : AreOrdered (vertices_of 0 wires) → (value : ℕ → ℕ) → IsKept (is_along_wire wires) (vertices_of 0 wires) value → AreShared more value
+  pub whole : AreOrdered (vertices_of 0 wires) → (value : ℕ → ℕ) → IsSharedAlong (is_along_wire wires) (vertices_of 0 wires) value → AreShared more value
       → (from to : ℕ) → is_listed cut.wires from ≡ true → is_listed cut.wires to ≡ true → AreOneUnder wires cut.region value from to
-
--- ---- cuts
-
--- the cuts with these regions and lists of wires
-abbrev pub cuts_with : List (List Strip) → List (List ℕ) → List Cut
-cuts_with regions lists = map (λ p. record { region = p.0; wires = p.1 }) (zip regions lists)
 
 -- ---- regions that are filled
 
@@ -197,7 +191,7 @@ pub record ArePicked (from : List Node) (indices : List ℕ) (n : ℕ) (nodes : 
   pub at : (k : ℕ) → k < n → slice_get nodes k ≡ slice_get from (slice_index indices k)
 
 -- Each of the first n labels has its new number.
-pub record AreNumbered (second label : List ℕ) (n : ℕ) (new : List ℕ) : Type 0 where
+pub record AreRenumbered (second label : List ℕ) (n : ℕ) (new : List ℕ) : Type 0 where
   pub each : length new ≡ n
   pub at : (k : ℕ) → k < n → slice_index new k ≡ slice_index second (slice_index label k)
 

@@ -2,7 +2,7 @@
 
 ghost use Rattle.std.specs.Prelude.{◌≡◌, map, length, IfOk};
 ghost use Rattle.layer_map.specs.Views.{numbers_seen};
-ghost use Rattle.net_trace.specs.Wirings.{cuts_with};
+ghost use Rattle.net_trace.specs.Touching.{cuts_with};
 
 use layer_map::CutLine;
 use mask_region::Region;

@@ -2,7 +2,7 @@
 
 ghost use Rattle.std.specs.Prelude.{◌≡◌, ◌<◌, length, map, All, IfOk, OnOk, slice_index, slice_get, ◌++◌};
 ghost use Rattle.net_trace.specs.Nets.{IsNetCount, IsJoinedBy};
-ghost use Rattle.net_trace.specs.Wirings.{AreNumbered, ArePicked, AreEndsOf};
+ghost use Rattle.net_trace.specs.Wirings.{AreRenumbered, ArePicked, AreEndsOf};
 
 use crate::node::Node;
 use std::alloc::{AllocError, Global};
@@ -43,7 +43,7 @@ pub(crate) fn numbered(
     second: &[usize],
 ) -> Result<Vec<usize>, AllocError>
     requires { All (λ k. k < length second.now) label.now }
-    ensures { IfOk result (λ v. AreNumbered second.now label.now (length label.now) v.items) }
+    ensures { IfOk result (λ v. AreRenumbered second.now label.now (length label.now) v.items) }
 {
     let mut new = Vec::new(alloc);
     for k in label {

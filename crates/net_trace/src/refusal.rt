@@ -7,7 +7,7 @@ use std::alloc::AllocError;
 pub enum TraceRefusal {
     /// There are over 8,192 nets before any are joined.
     TooManyNets,
-    /// No memory was found.
+    /// No memory was found. This says nothing of the layout.
     NoMemory,
 }
 

@@ -116,6 +116,7 @@ impl Traced {
     }
 
     /// The same nets, where the two nets of each pair are joined, and all are numbered anew. The numbers are in range.
+    /// It fails only where no memory is found.
     pub fn joined(self, alloc: Global, pairs: &[(NetId, NetId)]) -> Result<Traced, AllocError>
         requires { (n : ℕ) → IsNetCount self n → All (λ p. (p.0.0 < n) × (p.1.0 < n)) pairs.now }
         ensures { IfOk result (λ t. IsJoinedBy self (map (λ p. (p.0.0, p.1.0)) pairs.now) t) }

@@ -20,7 +20,8 @@ use std::alloc::{AllocError, Global};
 const MOST_NETS: usize = 8192;
 
 /// The nets of the wires and cuts of a map with these masks, where nothing is joined. The masks have one region for each
-/// line of the map. It is refused exactly where there are over 8,192 nets.
+/// line of the map. It is refused exactly where there are over 8,192 nets, but for a want of memory, where it gives
+/// `NoMemory`.
 pub fn trace(alloc: Global, masks: &Masks, map: &LayerMap) -> Result<Traced, TraceRefusal>
     requires wires { length masks.now.wires ≡ length map.now.wires }
     requires cuts { length masks.now.cuts ≡ length map.now.cuts }

@@ -1,3 +1,5 @@
+//! The rectangles of a shape.
+
 ghost use Rattle.std.specs.Prelude.{◌≡◌, ◌^◌, ℤ, [], ◌∷◌, IfOk};
 ghost use Rattle.std.specs.List.{All};
 ghost use Rattle.plane_geom.specs.declared.shapes.Rect.{Rect};
@@ -11,7 +13,7 @@ use plane_geom::{Rect, Shape};
 use std::alloc::{AllocError, Global};
 
 /// Rectangles that cover exactly the cells of the shape, by the definition `covers`. Each has its corners in order and
-/// lies within the shape's reach, which may go up to 16,777,216 from 0.
+/// lies within the shape's reach, which may go up to 16,777,216 from 0. It fails only where no memory is found.
 pub fn cut(alloc: Global, shape: &Shape) -> Result<Vec<Rect>, AllocError>
     requires formed { IsWellFormed (figure_of shape.now) }
     requires within { (r : Rect) → IsReach (figure_of shape.now) r → IsRectWithin (2 ^ 24) r }

@@ -1,3 +1,5 @@
+//! The law of a shape's reach.
+
 ghost use Rattle.std.specs.Prelude.{ℕ};
 ghost use Rattle.plane_geom.specs.declared.shapes.Rect.{Rect};
 ghost use Rattle.plane_geom.specs.Bounds.{IsRectWithin};

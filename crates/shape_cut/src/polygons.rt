@@ -1,3 +1,5 @@
+//! The rectangles of a polygon, slab by slab.
+
 ghost use Rattle.std.specs.Prelude.{◌≡◌, ◌^◌, ◌<◌, ℕ, ℤ, pos, neg_ℤ, ◌≤ℤ◌, ◌<ℤ◌, ◌∷◌, [], ◌++◌, ◌&&◌, ◌||◌, false, IfOk, OnOk, length, if◌then◌else◌};
 ghost use Rattle.std.specs.List.{All};
 ghost use Rattle.plane_geom.specs.declared.shapes.Rect.{Rect};

@@ -1,3 +1,5 @@
+//! The rectangles of a few shapes.
+
 ghost use Rattle.std.specs.Prelude.{◌≡◌, ◌^◌, true, false, IfOk};
 ghost use Rattle.plane_geom.specs.Bounds.{IsWithin, IsRectWithin};
 ghost use Rattle.plane_geom.specs.Covering.{figure_of, IsFigureWithin, IsWellFormed};

@@ -1,3 +1,5 @@
+//! The rectangles of a wire, segment by segment.
+
 ghost use Rattle.std.specs.Prelude.{◌≡◌, ◌^◌, ◌<◌, ℤ, pos, ◌≤ℤ◌, IfOk, length};
 ghost use Rattle.std.specs.List.{All};
 ghost use Rattle.plane_geom.specs.declared.shapes.Rect.{Rect};

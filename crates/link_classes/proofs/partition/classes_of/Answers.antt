@@ -22,7 +22,7 @@ loop-a-preserved c =
       forest = subst (λ n. IsForest n c.join.new.parents.items) h.forest.each c.join.ensures.forest;
       joined = λ value on. All-more (λ (p : ℕ × ℕ). value p.0 ≡ value p.1) pairs i (0, 0) c.loop-a-test.true
           (h.joined value (c.join.ensures.trees.trees value on)) (c.join.ensures.same value on);
-      linked = c.join.ensures.linked (has_pair pairs) (linked_touch (has_pair pairs) (get_or pairs i (0, 0)).0 (get_or pairs i (0, 0)).1 (has_own pairs i c.loop-a-test.true)) h.linked;
+      linked = c.join.ensures.linked (has_pair pairs) (linked_touch (has_pair pairs) (get_or pairs i (0, 0)).0 (get_or pairs i (0, 0)).1 (has_own pairs i (0, 0) c.loop-a-test.true)) h.linked;
     }
 
 pub returns : goal.returns

@@ -1,7 +1,7 @@
 -- What a line adds to the map.
 use Rattle.std.proofs.Common.{◌≡◌, ℕ, suc, ◌+◌, ◌≤◌, Bool, true, false, cond, if◌then◌else◌, not, ◌&&◌, ◌||◌, List, [], ◌∷◌, ◌++◌, length, Option, Some, None, option_map, refl, sym, ap, ◌∙◌, subst, arith, append_assoc, map, nat_lt, MatchOption, Result, Ok, Err, IfOk}
 use Rattle.std.specs.List.{list_any, list_all, position_or_len}
-use Rattle.std.specs.Prelude.{Vec}
+use Rattle.std.specs.Prelude.{Vec, is_some, position}
 use Rattle.std.specs.Global.{Global}
 use Rattle.std.specs.Str.{bytes_eq}
 use Rattle.std.proofs.lemmas.Bool.{lt-ltb, le-ltb, ltb-true, ltb-false}
@@ -36,6 +36,13 @@ any_cons p xs false h = h ∙ less (position_or_len p xs) (length xs) (nat_lt (p
 pub any_by_place : {X : Type 0} (p : X → Bool) (xs : List X) → list_any p xs ≡ nat_lt (position_or_len p xs) (length xs)
 any_by_place p [] = sym (le-ltb 0 0 (omega arith))
 any_by_place p (x ∷ xs) = any_cons p xs (p x) (any_by_place p xs)
+
+pub has_place : {X : Type 0} (p : X → Bool) (xs : List X) → is_some (position p xs) ≡ list_any p xs
+has_place p xs = by_test (nat_lt (position_or_len p xs) (length xs)) (position_or_len p xs) ∙ sym (any_by_place p xs)
+  where
+    by_test : (t : Bool) (n : ℕ) → is_some (cond t (Some n) None) ≡ t
+    by_test true n = refl
+    by_test false n = refl
 
 -- ---- numbers of wires
 
@@ -87,22 +94,6 @@ appended : (front : List ℕ) (k : ℕ) (o : Option (List ℕ)) → option_map (
 appended front k None = refl
 appended front k (Some xs) = ap Some (sym (append_assoc front (k ∷ []) xs))
 
-wire_case : (n : List ℕ) (wires : List WireLine) (k : ℕ) (t : Bool) → list_any (has_name n) wires ≡ t → ◌≡◌ {A = Option WireId} (Some (record { 0 = k })) (if t then Some (record { 0 = position_or_len (has_name n) wires }) else None) → (t ≡ true) × (k ≡ position_or_len (has_name n) wires)
-wire_case n wires k true e h = let same : ◌≡◌ {A = WireId} (record { 0 = k }) (record { 0 = position_or_len (has_name n) wires }) = cc in (refl, ap (λ (w : WireId). w.0) same)
-wire_case n wires k false e h = absurd (cc)
-
-lacking_case : (n : List ℕ) (wires : List WireLine) (t : Bool) → list_any (has_name n) wires ≡ t → ◌≡◌ {A = Option WireId} None (if t then Some (record { 0 = position_or_len (has_name n) wires }) else None) → t ≡ false
-lacking_case n wires true e h = absurd (cc)
-lacking_case n wires false e h = refl
-
-pub numbered_more : (wires : List WireLine) (ws rest next : List (List ℕ)) (n : List ℕ) (k : ℕ) (front longer : List ℕ) → IsNumbered wires ws rest front → ◌≡◌ {A = Option (List ℕ × List (List ℕ))} (Some (n, next)) (first_of rest) → ◌≡◌ {A = Option WireId} (Some (record { 0 = k })) (if list_any (has_name n) wires then Some (record { 0 = position_or_len (has_name n) wires }) else None) → longer ≡ front ++ (k ∷ []) → IsNumbered wires ws next longer
-numbered_more wires ws rest next n k front longer h e w l =
-    let got = wire_case n wires k (list_any (has_name n) wires) refl w in
-    record { same = h.same ∙ ap (λ r. option_map (λ xs. front ++ xs) (numbers_at wires r)) (first_is rest next n e) ∙ ap (option_map (λ xs. front ++ xs)) (numbers_more wires n next got.0) ∙ appended front (position_or_len (has_name n) wires) (numbers_at wires next) ∙ ap (λ ys. option_map (λ xs. ys ++ xs) (numbers_at wires next)) (sym (l ∙ ap (λ m. front ++ (m ∷ [])) got.1)) }
-
-pub numbered_not : (wires : List WireLine) (ws rest next : List (List ℕ)) (n : List ℕ) (front : List ℕ) → IsNumbered wires ws rest front → ◌≡◌ {A = Option (List ℕ × List (List ℕ))} (Some (n, next)) (first_of rest) → ◌≡◌ {A = Option WireId} None (if list_any (has_name n) wires then Some (record { 0 = position_or_len (has_name n) wires }) else None) → None ≡ numbers_at wires ws
-numbered_not wires ws rest next n front h e w = sym (h.same ∙ ap (λ r. option_map (λ xs. front ++ xs) (numbers_at wires r)) (first_is rest next n e) ∙ ap (option_map (λ xs. front ++ xs)) (all_false wires n next (lacking_case n wires (list_any (has_name n) wires) refl w)))
-
 -- ---- the same of plain wires
 
 place_map : {X Y : Type 0} (f : X → Y) (p : Y → Bool) (xs : List X) → position_or_len p (map f xs) ≡ position_or_len (λ x. p (f x)) xs
@@ -114,6 +105,15 @@ names_any n wires = any_map (λ other. bytes_eq other n) (λ (w : Wire). w.name)
 
 pub number_same : (n : List ℕ) (wires : List WireLine) → number_of (map wire_seen wires) n ≡ position_or_len (has_name n) wires
 number_same n wires = place_map wire_seen (λ w. bytes_eq w.name n) wires
+
+pub numbered_more : (wires : List WireLine) (ws rest next : List (List ℕ)) (n : List ℕ) (k : ℕ) (front longer : List ℕ) → IsNumbered wires ws rest front → ◌≡◌ {A = Option (List ℕ × List (List ℕ))} (Some (n, next)) (first_of rest) → (is_among n (map (λ w. w.name) (map wire_seen wires)) ≡ true) × (k ≡ number_of (map wire_seen wires) n) → longer ≡ front ++ (k ∷ []) → IsNumbered wires ws next longer
+numbered_more wires ws rest next n k front longer h e w l =
+    let known = sym (names_any n wires) ∙ w.0 in
+    let number = w.1 ∙ number_same n wires in
+    record { same = h.same ∙ ap (λ r. option_map (λ xs. front ++ xs) (numbers_at wires r)) (first_is rest next n e) ∙ ap (option_map (λ xs. front ++ xs)) (numbers_more wires n next known) ∙ appended front (position_or_len (has_name n) wires) (numbers_at wires next) ∙ ap (λ ys. option_map (λ xs. ys ++ xs) (numbers_at wires next)) (sym (l ∙ ap (λ m. front ++ (m ∷ [])) number)) }
+
+pub numbered_not : (wires : List WireLine) (ws rest next : List (List ℕ)) (n : List ℕ) (front : List ℕ) → IsNumbered wires ws rest front → ◌≡◌ {A = Option (List ℕ × List (List ℕ))} (Some (n, next)) (first_of rest) → is_among n (map (λ w. w.name) (map wire_seen wires)) ≡ false → None ≡ numbers_at wires ws
+numbered_not wires ws rest next n front h e w = sym (h.same ∙ ap (λ r. option_map (λ xs. front ++ xs) (numbers_at wires r)) (first_is rest next n e) ∙ ap (option_map (λ xs. front ++ xs)) (all_false wires n next (sym (names_any n wires) ∙ w)))
 
 pub layers_any : (n : List ℕ) (labels : List LabelLine) → is_among n (map (λ l. l.layer) (map label_seen labels)) ≡ list_any (λ l. bytes_eq l.layer n) labels
 layers_any n labels = any_map (λ other. bytes_eq other n) (λ (l : LabelWires). l.layer) (map label_seen labels) ∙ any_map (λ l. bytes_eq l.layer n) label_seen labels

@@ -5,7 +5,7 @@ use Rattle.std.specs.Str.{bytes_eq}
 use Rattle.std.proofs.lemmas.Bool.{ltb-true, and_parts, and_from, not-true, or_parts}
 use Rattle.std.proofs.lemmas.List.{length-append, length-map}
 use Rattle.std.proofs.lemmas.Slice.Eq.{bytes_eq-Decides}
-use Rattle.plane_geom.proofs.Lists.{all_push, any_map}
+use Rattle.plane_geom.proofs.Lists.{all_push, any_map, all_weaker}
 use Rattle.layer_map.specs.declared.refusal.MapRefusal.{MapRefusal}
 use Rattle.layer_map.specs.declared.refusal.MapRefusal.TheVariants.{UnknownWire, Unbounded, TwiceNamed, TooMany}
 use Rattle.layer_map.specs.Names.{is_among, are_distinct}
@@ -52,10 +52,6 @@ pub neither_of : (a b : Bool) → a ≡ false → b ≡ false → (a || b) ≡ f
 neither_of a b e f = λ i. e i || f i
 
 -- ---- what a map keeps
-
-all_weaker : {A : Type 0} (P Q : A → Type 0) (xs : List A) → ((x : A) → P x → Q x) → AllByRecursion P xs → AllByRecursion Q xs
-all_weaker P Q [] f h = tt
-all_weaker P Q (x ∷ xs) f h = (f x h.0, all_weaker P Q xs f h.1)
 
 numbers_wider : (m n : ℕ) → m ≤ n → (xs : List ℕ) → AreNumbers m xs → AreNumbers n xs
 numbers_wider m n le xs h = record { some = h.some; known = all_weaker (λ w. w < m) (λ w. w < n) xs (λ x k. omega arith) h.known }

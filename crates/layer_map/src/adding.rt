@@ -4,8 +4,8 @@ ghost use Rattle.std.specs.Prelude.{◌≡◌, [], ◌∷◌, ◌++◌, OnOk, is
 
 use crate::building::build;
 use crate::judge::{
-    are_distinct, count_names, count_wires, is_any_supply, is_layer, is_unbounded, is_wire,
-    names_of, wire_of, wires_of,
+    are_distinct, count_words, is_any_supply, is_layer, is_unbounded, is_wire, names_of, wire_of,
+    wires_of,
 };
 use crate::map::{CutLine, FetLine, LabelLine, LayerMap, WireLine};
 use crate::refusal::{MapRefusal, Side};
@@ -82,7 +82,7 @@ impl LayerMap {
         ensures added { OnOk result (Adds number self.old (cut (tree_of (words_of true expr.now)) (words_of true wires.now)) self.new) }
         ensures fault { IfErr result (λ fault. fault ≢ MapRefusal.NoMemory → fault_in number self.old (cut (tree_of (words_of true expr.now)) (words_of true wires.now)) ≡ Some fault) }
     {
-        if self.cuts.len() >= MOST_CUTS || count_wires(wires) > LONGEST_LIST {
+        if self.cuts.len() >= MOST_CUTS || count_words(true, wires) > LONGEST_LIST {
             return Err(MapRefusal::TooMany(number));
         }
         let Some(expr) = build(alloc, expr)? else {
@@ -150,7 +150,7 @@ impl LayerMap {
         ensures added { OnOk result (Adds number self.old (label layer.now (words_of true wires.now)) self.new) }
         ensures fault { IfErr result (λ fault. fault ≢ MapRefusal.NoMemory → fault_in number self.old (label layer.now (words_of true wires.now)) ≡ Some fault) }
     {
-        if self.labels.len() >= MOST_LABELS || count_wires(wires) > LONGEST_LIST {
+        if self.labels.len() >= MOST_LABELS || count_words(true, wires) > LONGEST_LIST {
             return Err(MapRefusal::TooMany(number));
         }
         let Some(wires) = wires_of(alloc, &self.wires, wires)? else {
@@ -184,7 +184,11 @@ impl LayerMap {
         ensures added { OnOk result (Adds number self.old (supply side (words_of false names.now)) self.new) }
         ensures fault { IfErr result (λ fault. fault ≢ MapRefusal.NoMemory → fault_in number self.old (supply side (words_of false names.now)) ≡ Some fault) }
     {
-        if self.supply_size(side).saturating_add(count_names(names)) > MOST_NAMES {
+        if self
+            .supply_size(side)
+            .saturating_add(count_words(false, names))
+            > MOST_NAMES
+        {
             return Err(MapRefusal::TooMany(number));
         }
         let names = names_of(alloc, names)?;

@@ -13,7 +13,7 @@ ghost use Rattle.layer_map.specs.Views.{wire_seen, label_seen, numbers_seen};
 
 use crate::expr::Expr;
 use crate::map::{LabelLine, WireId, WireLine};
-use crate::words::{next_name, next_word};
+use crate::words::{cut, next_name, next_word};
 use plane_geom::{Label, Short};
 use std::alloc::{AllocError, Global};
 
@@ -29,20 +29,6 @@ pub(crate) fn is_unbounded(expr: &Expr) -> bool
     }
 }
 
-/// Whether a wire has this name.
-fn any_wire(wires: &[WireLine], name: &[u8]) -> bool
-    ensures { result ≡ list_any (λ w. bytes_eq w.name name.now) wires.now }
-{
-    wires.iter().any(|wire| wire.name.as_bytes() == name)
-}
-
-/// Whether a wire of the map has this name.
-pub(crate) fn is_wire(wires: &[WireLine], name: &[u8]) -> bool
-    ensures { result ≡ is_among_lem name.now (map (λ w. w.name) (map wire_seen wires.now)) }
-{
-    any_wire(wires, name)
-}
-
 /// The place of the wire with this name.
 fn place_of(wires: &[WireLine], name: &[u8]) -> Option<usize>
     ensures { result ≡ position (λ w. bytes_eq w.name name.now) wires.now }
@@ -50,10 +36,17 @@ fn place_of(wires: &[WireLine], name: &[u8]) -> Option<usize>
     wires.iter().position(|wire| wire.name.as_bytes() == name)
 }
 
-/// The number of the wire with this name.
-fn number_of(wires: &[WireLine], name: &[u8]) -> Option<WireId>
+/// Whether a wire of the map has this name.
+pub(crate) fn is_wire(wires: &[WireLine], name: &[u8]) -> bool
+    ensures { result ≡ is_among_lem name.now (map (λ w. w.name) (map wire_seen wires.now)) }
+{
+    place_of(wires, name).is_some()
+}
+
+/// The wire with this name, where there is one.
+pub(crate) fn wire_of(wires: &[WireLine], name: &[u8]) -> Option<WireId>
     requires { length wires.now ≤ 16 }
-    ensures { result ≡ (if list_any (λ w. bytes_eq w.name name.now) wires.now then Some (record { 0 = position_or_len (λ w. bytes_eq w.name name.now) wires.now }) else None) }
+    ensures { MatchOption result (is_among_lem name.now (map (λ w. w.name) (map wire_seen wires.now)) ≡ false) (λ w. (is_among_lem name.now (map (λ w. w.name) (map wire_seen wires.now)) ≡ true) × (w.0 ≡ number_of_lem (map wire_seen wires.now) name.now)) }
 {
     let place = place_of(wires, name)?;
     Some(WireId(place as u32))
@@ -71,21 +64,13 @@ fn numbers_of(
     let mut numbers = Vec::new(alloc);
     let mut rest = names;
     while let Some((name, behind)) = next_word(rest) {
-        let Some(number) = number_of(wires, name) else {
+        let Some(number) = wire_of(wires, name) else {
             return Ok(None);
         };
         numbers.push(number)?;
         rest = behind;
     }
     Ok(Some(numbers))
-}
-
-/// The wire with this name, where there is one.
-pub(crate) fn wire_of(wires: &[WireLine], name: &[u8]) -> Option<WireId>
-    requires { length wires.now ≤ 16 }
-    ensures { MatchOption result (is_among_lem name.now (map (λ w. w.name) (map wire_seen wires.now)) ≡ false) (λ w. (is_among_lem name.now (map (λ w. w.name) (map wire_seen wires.now)) ≡ true) × (w.0 ≡ number_of_lem (map wire_seen wires.now) name.now)) }
-{
-    number_of(wires, name)
 }
 
 /// The wires with these names, or none where one of them has no wire.
@@ -100,26 +85,13 @@ pub(crate) fn wires_of(
     numbers_of(alloc, wires, names)
 }
 
-/// How many words there are.
-pub(crate) fn count_wires(bytes: &[u8]) -> usize
-    ensures { result ≡ length (words_of true bytes.now) }
+/// How many words there are, where a line is cut with signs or at its blanks alone.
+pub(crate) fn count_words(signs: bool, bytes: &[u8]) -> usize
+    ensures { result ≡ length (words_of signs bytes.now) }
 {
     let mut count = 0;
     let mut rest = bytes;
-    while let Some((_, behind)) = next_word(rest) {
-        count += 1;
-        rest = behind;
-    }
-    count
-}
-
-/// How many words there are, cut at blanks alone.
-pub(crate) fn count_names(bytes: &[u8]) -> usize
-    ensures { result ≡ length (words_of false bytes.now) }
-{
-    let mut count = 0;
-    let mut rest = bytes;
-    while let Some((_, behind)) = next_name(rest) {
+    while let Some((_, behind)) = cut(signs, rest) {
         count += 1;
         rest = behind;
     }

@@ -75,7 +75,7 @@ fn plain_bytes(signs: bool, bytes: &[u8]) -> usize
 }
 
 /// The first word and the bytes behind it, where a line is cut with signs or at its blanks alone.
-fn cut(signs: bool, bytes: &[u8]) -> Option<(&[u8], &[u8])>
+pub(crate) fn cut(signs: bool, bytes: &[u8]) -> Option<(&[u8], &[u8])>
     ensures word { option_map (λ x. (x.0.now, words_of signs x.1.now)) result ≡ first_of (words_of signs bytes.now) }
     ensures shorter { IfSome result (λ x. length x.1.now < length bytes.now) }
 {

@@ -180,7 +180,7 @@ pub all_back : {X : Type 0} (P : X → Type 0) (xs ys : List X) → All P (xs ++
 all_back P [] ys h = h
 all_back P (x ∷ xs) ys h = all_back P xs ys (All-tail P x (xs ++ ys) h)
 
-abbrev widened_corners : ℤ → Point × Point → List Point
+abbrev pub widened_corners : ℤ → Point × Point → List Point
 widened_corners half s = rect_corners (widened half s)
 
 edges_in : (half : ℤ) (p : Point) (qs : List Point) → pos 0 ≤ℤ half → IsWideIn half p → All (IsWideIn half) qs → All (IsPointWithin (2 ^ 24)) (flat_map (widened_corners half) (edges_from p qs))

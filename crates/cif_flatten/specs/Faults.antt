@@ -44,10 +44,6 @@ pub record IsFirst (calls : List UndefinedCall) (call : UndefinedCall) : Type 0 
 abbrev pub IsUndefined : Contents → UndefinedCall → Type 0
 IsUndefined file call = IsFirst (undefined_calls file) call
 
--- Each call names a defined symbol.
-abbrev pub IsDefined : Contents → Type 0
-IsDefined file = undefined_calls file ≡ []
-
 -- The first of the calls, or none where there is none.
 abbrev pub IsFirstIfAny : List UndefinedCall → Option UndefinedCall → Type 0
 IsFirstIfAny calls None = calls ≡ []

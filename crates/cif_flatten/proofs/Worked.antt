@@ -1,11 +1,11 @@
 -- Worked instances of the definitions: values that are computed, relations that hold, and relations that are refused.
 use Rattle.std.proofs.Common.{◌≡◌, ℕ, ◌++◌, codes, List, [], ◌∷◌, true, false, None, refl}
 use Rattle.std.specs.Prelude.{ℤ, pos, negsuc}
-use Rattle.plane_geom.specs.declared.shapes.Point.{Point}
 use Rattle.plane_geom.specs.declared.shapes.Rect.{Rect}
 use Rattle.plane_geom.specs.declared.shapes.Shape.TheVariants.{Block}
 use Rattle.plane_geom.specs.declared.places.Place.{Place}
 use Rattle.plane_geom.specs.Covering.{block, polygon, wire}
+use Rattle.plane_geom.proofs.Worked.{at}
 use Rattle.plane_geom.specs.Placement.{shift, steps_of}
 use Rattle.cif_reader.specs.declared.file.Item.{Item}
 use Rattle.cif_reader.specs.declared.file.What.{What}
@@ -16,9 +16,6 @@ use Rattle.cif_flatten.specs.Faults.{undefined_by, IsFirstIfAny, CallsAlong, IsN
 
 rect : ℤ → ℤ → ℤ → ℤ → Rect
 rect x0 y0 x1 y1 = record { x0 = x0; y0 = y0; x1 = x1; y1 = y1 }
-
-at : ℤ → ℤ → Point
-at x y = record { x = x; y = y }
 
 -- `MX T 10 0`, and `T 10 0 MX`
 mirrored_first : Place

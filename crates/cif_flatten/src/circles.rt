@@ -16,7 +16,7 @@ use indexmap::IndexSet;
 use std::alloc::{AllocError, Global};
 
 /// The least number of a symbol that calls itself, perhaps through others, called or not. It is `None` exactly where no
-/// symbol does.
+/// symbol does. The only error is want of memory.
 pub fn recursive_symbol(alloc: Global, file: &CifFile) -> Result<Option<u32>, AllocError>
     ensures found { IfOk result (λ found. IfSome found (λ number. IsRecursive file.now number)) }
     ensures none { IfOk result (λ found. IfNone found (IsNested file.now.symbols)) }

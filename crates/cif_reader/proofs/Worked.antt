@@ -3,11 +3,11 @@ use Rattle.std.proofs.Common.{◌≡◌, ℕ, suc, ◌-◌, true, false, codes, 
 use Rattle.std.specs.Prelude.{ℤ, pos, neg_ℤ}
 use Rattle.std.specs.Option.{option_or}
 use Rattle.std.proofs.lemmas.List.{length-append}
-use Rattle.plane_geom.specs.declared.shapes.Point.{Point}
 use Rattle.plane_geom.specs.declared.shapes.Rect.{Rect}
 use Rattle.plane_geom.specs.declared.shapes.Shape.TheVariants.{Block}
 use Rattle.plane_geom.specs.Covering.{block, wire as drawn_along}
 use Rattle.plane_geom.specs.Placement.{shift, negate_x, exchange, moved}
+use Rattle.plane_geom.proofs.Worked.{at}
 use Rattle.cif_grammar.specs.declared.spelled.Number.{Number}
 use Rattle.cif_grammar.specs.declared.spelled.Spot.{Spot}
 use Rattle.cif_grammar.specs.Words.{limit}
@@ -30,9 +30,6 @@ use Rattle.cif_reader.specs.File.{AreApart}
 
 number : ℕ → ℕ → Number
 number at value = record { at = at; value = value }
-
-at : ℤ → ℤ → Point
-at x y = record { x = x; y = y }
 
 minus : ℕ → ℤ
 minus n = neg_ℤ (pos n)

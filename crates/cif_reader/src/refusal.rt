@@ -5,7 +5,7 @@ use std::alloc::AllocError;
 /// Why a text is not read. A position is the number of bytes before a byte of the text.
 #[derive(Clone, Copy, Debug, PartialEq, Eq)]
 pub enum CifRefusal {
-    /// The text is too long. The caller that reads the text gives this answer.
+    /// The text is too long. `read` never gives it: it is for callers, who know how much they read.
     CifTooLong,
     /// The first command that can't stand begins here, or the text ends here.
     Syntax(u64),
@@ -27,6 +27,7 @@ pub enum CifRefusal {
     BadLabel(u64),
     /// The polygon or wire here has over 1,024 points.
     TooManyPoints(u64),
+    /// Memory ran out before the answer was known. It can come in place of any other answer.
     NoMemory,
 }
 

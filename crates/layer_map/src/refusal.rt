@@ -28,7 +28,7 @@ pub enum MapRefusal {
     /// or the line has over 16 wires in a list or a too large expression: over 64 names of layers, or over 32 `(` and `!`
     /// open round one place.
     TooMany(u64),
-    /// Memory ran out before the answer was known.
+    /// Memory ran out before the answer was known. It can come in place of any other answer.
     NoMemory,
 }
 

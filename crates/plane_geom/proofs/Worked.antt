@@ -15,7 +15,8 @@ use Rattle.plane_geom.specs.Ends.{flips}
 use Rattle.plane_geom.specs.Names.{is_short, is_name}
 use Rattle.plane_geom.specs.Placement.{shift, negate_x, negate_y, exchange, moved, placed, IsPlaceOf, IsShiftWithin}
 
-at : ℤ → ℤ → Point
+-- the point with these coordinates
+unfoldable pub at : ℤ → ℤ → Point
 at x y = record { x = x; y = y }
 
 -- the square from (low, low) to (high, high)

@@ -108,7 +108,7 @@ impl Model for Label {
 }
 
 impl Label {
-    /// The label with these bytes.
+    /// The label with these bytes. The only error is want of memory.
     pub fn new(alloc: Global, text: &[u8]) -> Result<Label, AllocError>
         ensures { IfOk result (λ label. label ≡ text.now) }
     {

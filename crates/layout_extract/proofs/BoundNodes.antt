@@ -4,7 +4,7 @@ use Rattle.std.proofs.lemmas.Bool.Decides.{nat_tests}
 use Rattle.std.specs.Option.{option_map}
 use Rattle.std.specs.List.{find}
 use Rattle.std.specs.Ordering.{int_eq}
-use Rattle.std.proofs.lemmas.Bool.{both_ways, and_parts, and_from, or_left}
+use Rattle.std.proofs.lemmas.Bool.{both_ways, and_parts, and_from}
 use Rattle.std.proofs.lemmas.Bool.Decides.{Decides-int_eq, Decides-eqb}
 use Rattle.std.proofs.lemmas.Option.{slice_get_within}
 use Rattle.plane_geom.specs.declared.shapes.Point.{Point}
@@ -12,11 +12,9 @@ use Rattle.cif_flatten.specs.declared.flat.Mark.{Mark}
 use Rattle.layer_map.specs.declared.map.WireId.{WireId}
 use Rattle.layer_map.specs.Plan.{Plan}
 use Rattle.layer_map.specs.Views.{numbers_seen}
-use Rattle.link_classes.specs.Linked.{Linked}
-use Rattle.link_classes.proofs.Chains.{linked_map, linked_touch}
 use Rattle.net_trace.specs.declared.node.Node.{Node}
-use Rattle.net_trace.specs.Touching.{Nets, has_node, is_node, touches}
-use Rattle.net_trace.specs.Nets.{is_link, is_joined, IsNetNumber, node_at}
+use Rattle.net_trace.specs.Touching.{Nets, has_node, is_node}
+use Rattle.net_trace.specs.Nets.{IsNetNumber, node_at}
 use Rattle.layout_extract.specs.Labels.{cells_round, is_round, is_near, tried_wires, label_wire, is_shallow, is_wire, is_bound_at, IsAmbiguous}
 use Rattle.layout_extract.specs.Binding.{HasNodeIn, HasNoNodeIn, AreOneNet, AreTwoNets, IsBoundTo, HasWire}
 use Rattle.layout_extract.proofs.Places.{place_of, any_at, find_map, found_passes}

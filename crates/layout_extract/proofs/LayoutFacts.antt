@@ -1,10 +1,9 @@
 -- The steps of naming give what the definitions say.
-use Rattle.std.proofs.Common.{◌≡◌, ℕ, suc, ◌+◌, ◌<◌, ◌≤◌, cond, Bool, true, false, List, [], ◌∷◌, length, map, Result, Ok, Err, refl, sym, ap, ◌∙◌, subst, arith}
+use Rattle.std.proofs.Common.{◌≡◌, ℕ, ◌<◌, Bool, List, length, map, Result, Ok, Err, refl, sym, ap, ◌∙◌, subst, arith}
 use Rattle.std.specs.Prelude.{count_by}
 use Rattle.std.specs.List.{AllZip}
 use Rattle.std.proofs.lemmas.List.{length-map}
 use Rattle.std.proofs.lemmas.Slice.Zip.{AllZip-long}
-use Rattle.plane_geom.proofs.Counting.{count_cons}
 use Rattle.cif_flatten.specs.declared.flat.Draw.{Draw}
 use Rattle.cif_flatten.specs.declared.flat.Mark.{Mark}
 use Rattle.cif_flatten.specs.Flat.{Lists}

@@ -16,10 +16,10 @@ use Rattle.net_trace.specs.declared.node.Node.{Node}
 use Rattle.net_trace.specs.declared.wiring.Vertex.{Vertex}
 use Rattle.net_trace.specs.Touching.{Nets, is_node, touches}
 use Rattle.net_trace.specs.Nets.{node_cmp, is_same, is_joined, is_link}
-use Rattle.net_trace.specs.Wirings.{is_at, corner, vertices_of, AreAllBanded, AreOrdered, IsVertexAt, IsTraced, ArePicked, AreRenumbered}
+use Rattle.net_trace.specs.Wirings.{corner, vertices_of, AreAllBanded, AreOrdered, IsVertexAt, IsTraced, ArePicked, AreRenumbered}
 use Rattle.net_trace.proofs.VertexLists.{vertices_ordered}
-use Rattle.net_trace.proofs.VertexFacts.{has_corner, node_of, one_vertex}
-use Rattle.net_trace.proofs.TracedNets.{not_before}
+use Rattle.net_trace.proofs.VertexFacts.{node_of, one_vertex}
+use Rattle.net_trace.proofs.TracedNets.{not_before, root_vertex}
 use Rattle.net_trace.proofs.TracedStart.{less_both}
 use Rattle.mask_region.proofs.Within.{or_cases}
 
@@ -88,16 +88,11 @@ module _ (nets : Nets) (label : List ℕ) (roots : List Node) (banded : AreAllBa
   kept_linked : (a b : Node) → Linked (is_link nets) a b → Linked (is_link new) a b
   kept_linked a b linked = linked_map (is_link nets) (is_link new) (λ c. c) (λ c d is. linked_touch (is_link new) c d (kept_link c d is)) a b linked
 
-  root_vertex : (k : ℕ) (r : Node) → slice_get roots k ≡ Some r → (i : ℕ) × IsVertexAt (vertices_of 0 nets.wires) r i × (slice_index label i ≡ k)
-  root_vertex k r at =
-      let (i, u, at_i, is_k, is_r) = h.own k r at in
-      (i, record { vertex = u; at = at_i; has = subst (λ (x : Node). is_at u x ≡ true) is_r (has_corner u (ordered.strip i u at_i)) }, is_k)
-
   root_node : (k : ℕ) (r : Node) → slice_get roots k ≡ Some r → is_node nets r ≡ true
-  root_node k r at = let (i, at_i, is_k) = root_vertex k r at in node_of nets r i at_i
+  root_node k r at = let (i, at_i, is_k) = root_vertex nets label roots banded h k r at in node_of nets r i at_i
 
   root_label : (k i : ℕ) (r : Node) → slice_get roots k ≡ Some r → IsVertexAt (vertices_of 0 nets.wires) r i → slice_index label i ≡ k
-  root_label k i r at at_r = let (j, at_j, is_k) = root_vertex k r at in ap (λ n. slice_index label n) (one_vertex (vertices_of 0 nets.wires) r i j ordered at_r at_j) ∙ is_k
+  root_label k i r at at_r = let (j, at_j, is_k) = root_vertex nets label roots banded h k r at in ap (λ n. slice_index label n) (one_vertex (vertices_of 0 nets.wires) r i j ordered at_r at_j) ∙ is_k
 
   label_in : (i : ℕ) (u : Vertex) → slice_get (vertices_of 0 nets.wires) i ≡ Some u → i < length label
   label_in i u at = omega (arith, h.each, slice_get_within (vertices_of 0 nets.wires) i u at)

@@ -74,7 +74,7 @@ module _ (nets : Nets) (label : List ℕ) (roots : List Node) (banded : AreAllBa
         not_before (corner at_a.vertex) a root (corner_least at_a.vertex a at_a.has) before,
       )
 
-  root_vertex : (k : ℕ) (r : Node) → slice_get roots k ≡ Some r → (i : ℕ) × IsVertexAt (vertices_of 0 nets.wires) r i × (slice_index label i ≡ k)
+  pub root_vertex : (k : ℕ) (r : Node) → slice_get roots k ≡ Some r → (i : ℕ) × IsVertexAt (vertices_of 0 nets.wires) r i × (slice_index label i ≡ k)
   root_vertex k r at =
       let (i, u, at_i, is_k, is_r) = h.own k r at in
       (i, record { vertex = u; at = at_i; has = subst (λ (x : Node). is_at u x ≡ true) is_r (has_corner u (ordered.strip i u at_i)) }, is_k)

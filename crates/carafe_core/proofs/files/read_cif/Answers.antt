@@ -7,6 +7,6 @@ pub returns-clause-failure : goal.returns-clause-failure
 returns-clause-failure g c =
     let files = g.H.Shelf.files c.args.shelf.now in
     let shelf = shown files (g.H.Shelf.start_faults c.args.shelf.now) (g.H.Shelf.start_faults c.read_file.new.shelf) (g.H.Shelf.read_faults c.args.shelf.now) (g.H.Shelf.read_faults c.read_file.new.shelf) in
-    fault_failure shelf (bridges_settings c.args.settings.now) c.args.map.now c.in_ok-bytes.bytes.items c.in-Err.refusal c.refused.result c.refused.ensures
+    fault_failure shelf (bridges_settings c.args.settings.now) c.args.map.now c.in_ok-bytes.bytes.items c.in-Err.refusal c.cif_refused.result c.cif_refused.ensures
     (record { mapped = c.requires.mapped; cif_is = c.in_ok-bytes.ensures.file; short = c.in_ok-bytes.ensures.short })
     (by_bytes c.as_slice.ensures.value c.in-Err.ensures.refused)

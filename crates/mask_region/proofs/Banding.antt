@@ -9,6 +9,7 @@ use Rattle.plane_geom.specs.Bounds.{IsWithin}
 use Rattle.plane_geom.specs.Cells.{is_between}
 use Rattle.plane_geom.specs.Ends.{is_odd, flips}
 use Rattle.plane_geom.proofs.Ends.{odd_more, flips-pair}
+use Rattle.plane_geom.proofs.Lists.{all_push, all_weaker}
 use Rattle.mask_region.proofs.Rows.{rising-push}
 use Rattle.mask_region.specs.declared.strips.Strip.{Strip}
 use Rattle.mask_region.specs.Rows.{IsRising}
@@ -24,17 +25,9 @@ strip_at strips k = slice_index_or strips k no_strip
 
 -- ---- facts of all elements
 
-pub all_as : {X : Type 0} (P Q : X → Type 0) (xs : List X) → ((x : X) → P x → Q x) → AllByRecursion P xs → AllByRecursion Q xs
-all_as P Q [] f h = tt
-all_as P Q (x ∷ xs) f h = (f x h.0, all_as P Q xs f h.1)
-
 pub all_with : {X : Type 0} (P Q R : X → Type 0) (xs : List X) → ((x : X) → P x → Q x → R x) → AllByRecursion P xs → AllByRecursion Q xs → AllByRecursion R xs
 all_with P Q R [] f h k = tt
 all_with P Q R (x ∷ xs) f h k = (f x h.0 k.0, all_with P Q R xs f h.1 k.1)
-
-pub all_push : {X : Type 0} (P : X → Type 0) (xs : List X) (x : X) → AllByRecursion P xs → P x → AllByRecursion P (xs ++ x ∷ [])
-all_push P [] x h p = (p, tt)
-all_push P (y ∷ xs) x h p = (h.0, all_push P xs x h.1 p)
 
 -- ---- banded lists
 
@@ -62,7 +55,7 @@ edge_before s ts y h before =
     record {
       later = before;
       near = omega (arith, ints);
-      free = λ z low up. (record { now = λ now. omega (arith, ints); ahead = λ ahead. up }, all_as (Follows s) (IsFree y z) ts (λ t f. follows_free y z s t before up f) h.1);
+      free = λ z low up. (record { now = λ now. omega (arith, ints); ahead = λ ahead. up }, all_weaker (Follows s) (IsFree y z) ts (λ t f. follows_free y z s t before up f) h.1);
     }
 
 follows_free_inside : (y z : ℤ) (s t : Strip) → s.y0 ≤ℤ y → y <ℤ s.y1 → z <ℤ s.y1 → Follows s t → IsFree y z t
@@ -80,7 +73,7 @@ edge_inside s ts y h now more =
     record {
       later = more;
       near = omega (arith, ints);
-      free = λ z low up. (record { now = λ below. up; ahead = λ ahead. omega (arith, ints) }, all_as (Follows s) (IsFree y z) ts (λ t f. follows_free_inside y z s t now more up f) h.1);
+      free = λ z low up. (record { now = λ below. up; ahead = λ ahead. omega (arith, ints) }, all_weaker (Follows s) (IsFree y z) ts (λ t f. follows_free_inside y z s t now more up f) h.1);
     }
 
 first_ahead : (s : Strip) (ts : List Strip) (y : ℤ) → AreAhead (s ∷ ts) y → y <ℤ s.y1
@@ -137,7 +130,7 @@ ahead_none strips k y h =
     subst P (sym (drop_all k strips h)) (record { each = tt })
 
 pub passed_further : (strips : List Strip) (y z : ℤ) → y ≤ℤ z → ArePassed strips y → ArePassed strips z
-passed_further strips y z up h = record { each = all_as (λ s. s.y1 ≤ℤ y) (λ s. s.y1 ≤ℤ z) strips (λ s le. omega (arith, ints)) h.each }
+passed_further strips y z up h = record { each = all_weaker (λ s. s.y1 ≤ℤ y) (λ s. s.y1 ≤ℤ z) strips (λ s le. omega (arith, ints)) h.each }
 
 -- Strips that were passed have no cell in the row.
 none_passed : (x z : ℤ) (s : Strip) → s.y1 ≤ℤ z → is_in_strip s x z ≡ false
@@ -219,7 +212,7 @@ row_more strips s left y ends h now =
       even = rw (length_push (ends ++ s.x0 ∷ []) s.x1, length_push ends s.x0, odd_more (length ends + 1), odd_more (length ends), h.even) refl;
       banded = h.banded.2;
       ahead = record { each = h.ahead.each.1 };
-      right = all_as (Follows s) (IsRight y ((ends ++ s.x0 ∷ []) ++ s.x1 ∷ [])) left (λ t f. still_right y ends s t strip.wide now more before f) h.banded.1;
+      right = all_weaker (Follows s) (IsRight y ((ends ++ s.x0 ∷ []) ++ s.x1 ∷ [])) left (λ t f. still_right y ends s t strip.wide now more before f) h.banded.1;
       free = λ z f. (h.free z f).1;
       cells = λ x z low f.
           let up : z <ℤ s.y1 = (h.free z f).0.now now in
@@ -255,7 +248,7 @@ row_last strips k all y ends le h =
 first_above : (s : Strip) (left : List Strip) (y x z : ℤ) → IsBanded (s ∷ left) → y <ℤ s.y0 → AllByRecursion (IsFree y z) (s ∷ left) → is_in (s ∷ left) x z ≡ false
 first_above s left y x z banded up f =
     let here : z <ℤ s.y0 = f.0.ahead up in
-    none_above (s ∷ left) x z (here, all_as (Follows s) (λ t. z <ℤ t.y0) left (λ t follows. omega (arith, ints, follows.later)) banded.1)
+    none_above (s ∷ left) x z (here, all_weaker (Follows s) (λ t. z <ℤ t.y0) left (λ t follows. omega (arith, ints, follows.later)) banded.1)
 
 pub row_above : (strips : List Strip) (k : ℕ) (all : List Strip) (y : ℤ) (ends : List ℤ) → k < length strips → IsRowBut all (drop k strips) y ends → y <ℤ (strip_at strips k).y0 → IsRowOf all y ends
 row_above strips k all y ends lt h up =
@@ -278,7 +271,7 @@ later_begins s t y f more apart here =
     (λ same. apart (omega (arith, ints, f.later)))
 
 none_begins : (s : Strip) (left : List Strip) (y : ℤ) → IsBanded (s ∷ left) → AreAhead (s ∷ left) y → (s.y0 ≡ y → ⊥) → IsSteady (s ∷ left) y
-none_begins s left y banded ahead apart = record { each = (apart, all_as (Follows s) (λ t. t.y0 ≡ y → ⊥) left (λ t f. later_begins s t y f ahead.each.0 apart) banded.1) }
+none_begins s left y banded ahead apart = record { each = (apart, all_weaker (Follows s) (λ t. t.y0 ≡ y → ⊥) left (λ t f. later_begins s t y f ahead.each.0 apart) banded.1) }
 
 pub steady_at : (strips : List Strip) (k : ℕ) (y : ℤ) → k < length strips → Banded strips → AreAhead (drop k strips) y → ((strip_at strips k).y0 ≡ y → ⊥) → IsSteady (drop k strips) y
 steady_at strips k y lt banded ahead apart =

@@ -9,6 +9,7 @@ use Rattle.std.proofs.lemmas.List.Folds.{list_any-append}
 use Rattle.plane_geom.specs.Bounds.{IsWithin}
 use Rattle.plane_geom.specs.Cells.{is_between}
 use Rattle.plane_geom.specs.Ends.{flips}
+use Rattle.plane_geom.proofs.Lists.{all_weaker}
 use Rattle.mask_region.specs.declared.strips.Strip.{Strip}
 use Rattle.mask_region.specs.declared.ends.Joining.{Joining}
 use Rattle.mask_region.specs.declared.ends.Joining.TheVariants.{Union, Meet, Minus}
@@ -16,7 +17,7 @@ use Rattle.mask_region.specs.Joins.{joined}
 use Rattle.mask_region.specs.Rows.{IsRow}
 use Rattle.mask_region.specs.Strips.{is_in_strip, is_in, IsStrip, Banded}
 use Rattle.mask_region.specs.Sweeping.{ArePassed, IsFree, IsEdge, IsRowOf, IsSteady, IsSplitAt, is_shown, IsShown}
-use Rattle.mask_region.proofs.Banding.{all_as, all_with, all_strips, none_above, passed_none, passed_further}
+use Rattle.mask_region.proofs.Banding.{all_with, all_strips, none_above, passed_none, passed_further}
 
 -- The rows at y are those of the two sets, and below y the strips and the held band are the joined set.
 pub record AreJoinedTo (op : Joining) (a b : List Strip) (i j : ℕ) (y : ℤ) (row_a row_b : List ℤ) (out : List Strip) (held : List ℤ) (from : ℤ) : Type 0 where
@@ -44,11 +45,11 @@ start_split strips y h low =
     record {
       in_range = omega arith;
       passed = record { each = tt };
-      ahead = record { each = all_as IsStrip (λ s. y <ℤ s.y1) strips (λ s st. omega (arith, ints, st.below, st.high)) (all_strips strips h.each) };
+      ahead = record { each = all_weaker IsStrip (λ s. y <ℤ s.y1) strips (λ s st. omega (arith, ints, st.below, st.high)) (all_strips strips h.each) };
     }
 
 start_none : (strips : List Strip) (y x z : ℤ) → Banded strips → y ≤ℤ neg_ℤ (pos (2 ^ 25)) → z <ℤ y → is_in strips x z ≡ false
-start_none strips y x z h low below = none_above strips x z (all_as IsStrip (λ s. z <ℤ s.y0) strips (λ s st. omega (arith, ints, st.below)) (all_strips strips h.each))
+start_none strips y x z h low below = none_above strips x z (all_weaker IsStrip (λ s. z <ℤ s.y0) strips (λ s st. omega (arith, ints, st.below)) (all_strips strips h.each))
 
 none_row : IsRow []
 none_row = record { rising = record { each = λ k h. absurd (omega arith); within = All-nil (IsWithin (2 ^ 25)) }; even = refl }

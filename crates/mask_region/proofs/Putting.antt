@@ -1,8 +1,7 @@
 -- Bands that are put behind others.
-use Rattle.std.proofs.Common.{◌≡◌, ℕ, ◌+◌, ◌<◌, ◌≤◌, ◌^◌, Bool, true, false, not, ◌&&◌, ◌||◌, List, [], ◌∷◌, ◌++◌, length, take, refl, sym, ap, ◌∙◌, subst, inl, inr, arith}
+use Rattle.std.proofs.Common.{◌≡◌, ℕ, ◌+◌, ◌<◌, ◌≤◌, ◌^◌, Bool, true, false, not, ◌&&◌, ◌||◌, List, [], ◌∷◌, ◌++◌, length, take, refl, sym, ap, ◌∙◌, subst, arith}
 use Rattle.std.specs.Prelude.{ℤ, pos, neg_ℤ, ◌≤ℤ◌, ◌<ℤ◌}
 use Rattle.std.specs.List.{All, AllByRecursion}
-use Rattle.std.proofs.lemmas.Bool.{cases_lt, false≢true}
 use Rattle.std.proofs.lemmas.Int.{ints, by_lt_z}
 use Rattle.std.proofs.lemmas.List.{take_more, take_all, length-take-le}
 use Rattle.std.proofs.lemmas.List.Elements.{All-weaker, All-get_or}
@@ -10,13 +9,14 @@ use Rattle.std.proofs.lemmas.List.Folds.{list_any-append}
 use Rattle.plane_geom.specs.Bounds.{IsWithin}
 use Rattle.plane_geom.specs.Cells.{is_between}
 use Rattle.plane_geom.specs.Ends.{is_odd, flips}
-use Rattle.plane_geom.proofs.Ends.{odd_more, flips-pair}
+use Rattle.plane_geom.proofs.Ends.{odd_more, even_same, flips-pair}
+use Rattle.plane_geom.proofs.Lists.{all_push, all_weaker}
 use Rattle.mask_region.specs.declared.strips.Strip.{Strip}
 use Rattle.mask_region.specs.Rows.{end_at, IsRising, IsRow}
 use Rattle.mask_region.specs.Strips.{is_in_strip, is_in, IsStrip, Follows, IsBanded, Banded}
 use Rattle.mask_region.specs.Sweeping.{ArePassed}
 use Rattle.mask_region.proofs.Rows.{rising_before}
-use Rattle.mask_region.proofs.Banding.{all_as, all_with, all_push, all_strips, banded-push}
+use Rattle.mask_region.proofs.Banding.{all_with, all_strips, banded-push}
 
 -- The strip ends below the band, or it is one of the band, and the ends from index k on are behind it.
 pub record IsBefore (y0 y1 : ℤ) (ends : List ℤ) (k : ℕ) (s : Strip) : Type 0 where
@@ -46,7 +46,7 @@ put_start old ends y0 y1 banded passed =
       in_range = omega arith;
       even = refl;
       banded = banded.each;
-      before = all_as (λ s. s.y1 ≤ℤ y0) (IsBefore y0 y1 ends 0) old (λ s h. before_old y0 y1 ends s h) passed.each;
+      before = all_weaker (λ s. s.y1 ≤ℤ y0) (IsBefore y0 y1 ends 0) old (λ s h. before_old y0 y1 ends s h) passed.each;
       cells = λ x z. or_none (is_in old x z) false (is_between y0 y1 z) refl;
     }
 
@@ -142,7 +142,7 @@ put_more old ends k y0 y1 out t is_row high low top lt e0 e1 ex0 ex1 h =
       in_range = omega arith;
       even = ap is_odd (two_more k) ∙ odd_more (k + 1) ∙ ap not (odd_more k) ∙ ap (λ b. not (not b)) h.even;
       banded = banded-push out t h.banded strip (all_with (IsBefore y0 y1 ends k) IsStrip (λ s. Follows s t) out (λ s b st. follows_put y0 y1 ends k s t high (omega arith) e0 e1 ex0 b st) h.before (all_strips out h.banded));
-      before = all_push (IsBefore y0 y1 ends (k + 2)) out t (all_as (IsBefore y0 y1 ends k) (IsBefore y0 y1 ends (k + 2)) out (λ s b. still_before y0 y1 ends k s lt is_row.rising b) h.before) (it_before y0 y1 ends k t is_row.rising e0 e1 ex1);
+      before = all_push (IsBefore y0 y1 ends (k + 2)) out t (all_weaker (IsBefore y0 y1 ends k) (IsBefore y0 y1 ends (k + 2)) out (λ s b. still_before y0 y1 ends k s lt is_row.rising b) h.before) (it_before y0 y1 ends k t is_row.rising e0 e1 ex1);
       cells = λ x z.
           list_any-append (λ s. is_in_strip s x z) out (t ∷ [])
           ∙ ap (λ b. b || (is_in_strip t x z || false)) (h.cells x z)
@@ -153,22 +153,16 @@ put_more old ends k y0 y1 out t is_row high low top lt e0 e1 ex0 ex1 h =
     two_more : (k : ℕ) → k + 2 ≡ (k + 1) + 1
     two_more k = omega arith
 
-odd_apart : (n k : ℕ) → is_odd n ≡ false → is_odd k ≡ false → k ≤ n → n ≤ k + 1 → k ≡ n
-odd_apart n k en ek le more = elim (cases_lt k n) [
-  | inl lt ↦ absurd (let e : n ≡ k + 1 = omega arith in false≢true (sym en ∙ ap is_odd e ∙ odd_more k ∙ ap not ek))
-  | inr ge ↦ omega arith
-]
-
 all_ended : (y0 y1 : ℤ) (ends : List ℤ) (k : ℕ) (s : Strip) → y0 ≤ℤ y1 → IsBefore y0 y1 ends k s → s.y1 ≤ℤ y1
 all_ended y0 y1 ends k s le b = by_lt_z y0 s.y1 (λ up. let top : s.y1 ≡ y1 = b.above up in omega (arith, ints, top)) (λ down. omega (arith, ints))
 
 pub put_passed : (old : List Strip) (ends : List ℤ) (k : ℕ) (y0 y1 : ℤ) (out : List Strip) → y0 ≤ℤ y1 → ArePut old ends k y0 y1 out → ArePassed out y1
-put_passed old ends k y0 y1 out le h = record { each = all_as (IsBefore y0 y1 ends k) (λ s. s.y1 ≤ℤ y1) out (λ s b. all_ended y0 y1 ends k s le b) h.before }
+put_passed old ends k y0 y1 out le h = record { each = all_weaker (IsBefore y0 y1 ends k) (λ s. s.y1 ≤ℤ y1) out (λ s b. all_ended y0 y1 ends k s le b) h.before }
 
 pub put_end : (old : List Strip) (ends : List ℤ) (k : ℕ) (y0 y1 : ℤ) (out : List Strip) → IsRow ends → length ends ≤ k + 1 → ArePut old ends k y0 y1 out
     → (x z : ℤ) → is_in out x z ≡ (is_in old x z || (flips ends x && is_between y0 y1 z))
 put_end old ends k y0 y1 out is_row le h x z =
-    let all : k ≡ length ends = odd_apart (length ends) k is_row.even h.even h.in_range le in
+    let all : k ≡ length ends = even_same (length ends) k is_row.even h.even h.in_range le in
     h.cells x z ∙ ap (λ l. is_in old x z || (flips l x && is_between y0 y1 z)) (take_all k ends (omega arith))
 
 -- A band of no height has no cells.

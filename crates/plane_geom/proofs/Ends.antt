@@ -1,10 +1,10 @@
 -- Sets of numbers by their ends.
-use Rattle.std.proofs.Common.{◌≡◌, ℕ, suc, ◌+◌, Bool, true, false, cond, not, ◌||◌, List, [], ◌∷◌, ◌++◌, length, refl, sym, ◌∙◌, arith}
+use Rattle.std.proofs.Common.{◌≡◌, ℕ, suc, ◌+◌, ◌≤◌, Bool, true, false, cond, not, ◌||◌, List, [], ◌∷◌, ◌++◌, length, refl, sym, ap, ◌∙◌, inl, inr, arith}
 use Rattle.std.specs.Prelude.{ℤ, ◌≤ℤ◌, ◌<ℤ◌, int_lt}
 use Rattle.std.specs.List.{All}
 use Rattle.std.proofs.lemmas.Int.{ints, by_lt_z}
 use Rattle.std.proofs.lemmas.List.Elements.{All-head, All-tail, All-weaker}
-use Rattle.std.proofs.lemmas.Bool.{false≢true}
+use Rattle.std.proofs.lemmas.Bool.{cases_lt, false≢true}
 use Rattle.plane_geom.specs.Cells.{is_between}
 use Rattle.plane_geom.specs.Ends.{is_odd, flips}
 
@@ -15,6 +15,13 @@ odd_more n = grind (arith)
 
 pub odd_suc : (n : ℕ) → is_odd (suc n) ≡ not (is_odd n)
 odd_suc n = grind (arith)
+
+-- two even numbers that differ by at most one
+pub even_same : (n k : ℕ) → is_odd n ≡ false → is_odd k ≡ false → k ≤ n → n ≤ k + 1 → k ≡ n
+even_same n k en ek le more = elim (cases_lt k n) [
+  | inl lt ↦ absurd (let e : n ≡ k + 1 = omega arith in false≢true (sym en ∙ ap is_odd e ∙ odd_more k ∙ ap not ek))
+  | inr ge ↦ omega arith
+]
 
 -- ---- one more end
 

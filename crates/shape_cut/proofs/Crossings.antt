@@ -14,6 +14,7 @@ use Rattle.plane_geom.specs.Ends.{is_odd, flips}
 use Rattle.plane_geom.specs.Covering.{edges_from, outline, is_vertical, is_along, spans, is_crossed, polygon_covers, HoldsAround, IsOutline}
 use Rattle.plane_geom.proofs.Counting.{count_cons}
 use Rattle.plane_geom.proofs.Ends.{odd_more}
+use Rattle.plane_geom.proofs.Lists.{all_push}
 use Rattle.shape_cut.specs.Slabs.{count_up_to, IsAcross, AreCrossings}
 use Rattle.shape_cut.proofs.Segments.{no_point, point_at}
 
@@ -222,10 +223,6 @@ count_same x y z p (q ∷ qs) here rest =
     count_cons (is_crossed x z) (p, q) (edges_from q qs)
     ∙ (λ i. cond (crossed_same x y z p q here rest.0 i) 1 0 + count_same x y z q qs rest.0 rest.1 i)
     ∙ sym (count_cons (is_crossed x y) (p, q) (edges_from q qs))
-
-pub all_push : {X : Type 0} (P : X → Type 0) (xs : List X) (x : X) → AllByRecursion P xs → P x → AllByRecursion P (xs ++ x ∷ [])
-all_push P [] x h p = (p, tt)
-all_push P (y ∷ xs) x h p = (h.0, all_push P xs x h.1 p)
 
 pub covers_same : (points : List Point) (x y z : ℤ) → AllByRecursion (λ q. int_lt z q.y ≡ int_lt y q.y) points → polygon_covers points x z ≡ polygon_covers points x y
 covers_same [] x y z h = refl

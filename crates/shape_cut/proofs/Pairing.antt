@@ -1,5 +1,5 @@
 -- Rectangles between ends, two by two.
-use Rattle.std.proofs.Common.{◌≡◌, ℕ, ◌+◌, ◌<◌, ◌≤◌, Bool, true, false, not, ◌&&◌, ◌||◌, List, [], ◌∷◌, ◌++◌, length, take, refl, sym, ap, ◌∙◌, subst, inl, inr, arith}
+use Rattle.std.proofs.Common.{◌≡◌, ℕ, ◌+◌, ◌<◌, ◌≤◌, Bool, true, false, not, ◌&&◌, ◌||◌, List, [], ◌∷◌, ◌++◌, length, take, refl, sym, ap, ◌∙◌, subst, arith}
 use Rattle.std.specs.Prelude.{ℤ, pos, ◌≤ℤ◌, ◌<ℤ◌}
 use Rattle.std.specs.List.{All}
 use Rattle.std.specs.Ordering.{int_cmp, is_lt, MatchOrdering}
@@ -7,7 +7,6 @@ use Rattle.std.specs.List.Sorted.{IsSorted}
 use Rattle.std.specs.Cmp.{int_ranks, int_cmp_total}
 use Rattle.std.specs.declared.cmp.Ordering.{Ordering}
 use Rattle.std.specs.declared.cmp.Ordering.TheVariants.{Less, Equal, Greater}
-use Rattle.std.proofs.lemmas.Bool.{cases_lt, false≢true}
 use Rattle.std.proofs.lemmas.Int.{ints}
 use Rattle.std.proofs.lemmas.List.{take_more, length-take-le, get_or-take}
 use Rattle.std.proofs.lemmas.List.Elements.{All-push, All-get_or, All-from_get_or}
@@ -17,7 +16,7 @@ use Rattle.plane_geom.specs.declared.shapes.Rect.{Rect}
 use Rattle.plane_geom.specs.Cells.{is_between, is_in_rect, is_in_rects}
 use Rattle.plane_geom.specs.Ends.{is_odd, flips}
 use Rattle.plane_geom.specs.Covering.{IsRect, IsRectIn}
-use Rattle.plane_geom.proofs.Ends.{odd_more, flips-pair}
+use Rattle.plane_geom.proofs.Ends.{odd_more, even_same, flips-pair}
 use Rattle.shape_cut.specs.Slabs.{x_at, AreNotFalling, IsAcross, IsPaired}
 
 -- ---- sorted ends
@@ -100,13 +99,7 @@ pair_more old ends k y0 y1 rects made t sorted order lt is e h =
     two_more : (k : ℕ) → k + 2 ≡ (k + 1) + 1
     two_more k = omega arith
 
-odd_apart : (n k : ℕ) → is_odd n ≡ false → is_odd k ≡ false → k ≤ n → n ≤ k + 1 → k ≡ n
-odd_apart n k en ek le more = elim (cases_lt k n) [
-  | inl lt ↦ absurd (let e : n ≡ k + 1 = omega arith in false≢true (sym en ∙ ap is_odd e ∙ odd_more k ∙ ap not ek))
-  | inr ge ↦ omega arith
-]
-
 pub pair_end : (old : List Rect) (ends : List ℤ) (k : ℕ) (y0 y1 : ℤ) (rects : List Rect) → is_odd (length ends) ≡ false → length ends ≤ k + 1 → IsPaired old ends k y0 y1 rects → IsPaired old ends (length ends) y0 y1 rects
 pair_end old ends k y0 y1 rects even le h =
     let P : ℕ → Type 0 = λ n. IsPaired old ends n y0 y1 rects in
-    subst P (odd_apart (length ends) k even h.even h.in_range le) h
+    subst P (even_same (length ends) k even h.even h.in_range le) h

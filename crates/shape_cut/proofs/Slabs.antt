@@ -13,13 +13,10 @@ use Rattle.plane_geom.specs.Bounds.{IsPointWithin}
 use Rattle.plane_geom.specs.Cells.{is_between, is_in_rects}
 use Rattle.plane_geom.specs.Ends.{is_odd, flips}
 use Rattle.plane_geom.specs.Covering.{outline, polygon_covers, IsRect, IsRectIn, HoldsAround, IsOutline}
+use Rattle.plane_geom.proofs.Lists.{all_push, all_weaker}
 use Rattle.shape_cut.specs.Slabs.{nearest, IsOutside, IsNextRow, IsNextOf, IsNextCornerRow, IsAcross, AreCrossings, IsPaired}
 use Rattle.shape_cut.proofs.Segments.{no_point, point_at}
-use Rattle.shape_cut.proofs.Crossings.{outline_even, flips_count, all_push, covers_same, covers_none}
-
-all_as : {X : Type 0} (P Q : X → Type 0) (xs : List X) → ((x : X) → P x → Q x) → AllByRecursion P xs → AllByRecursion Q xs
-all_as P Q [] f h = tt
-all_as P Q (x ∷ xs) f h = (f x h.0, all_as P Q xs f h.1)
+use Rattle.shape_cut.proofs.Crossings.{outline_even, flips_count, covers_same, covers_none}
 
 -- ---- the next row
 
@@ -41,7 +38,7 @@ row_first points k y n lt near up le each =
     record {
       later = up;
       near = omega (arith, ints, within.y.high);
-      each = all_push (IsOutside y p.y) (take k points) p (all_as (IsOutside y n) (IsOutside y p.y) (take k points) (λ q h. outside_more y n p.y q le h) each) (record { above = λ h. omega (arith, ints) });
+      each = all_push (IsOutside y p.y) (take k points) p (all_weaker (IsOutside y n) (IsOutside y p.y) (take k points) (λ q h. outside_more y n p.y q le h) each) (record { above = λ h. omega (arith, ints) });
       reached = λ r h. row_reached points k r lt h;
     }
 
@@ -58,7 +55,7 @@ next_none : (points : List Point) (k : ℕ) (y : ℤ) (b : Bool) → int_lt y (p
     → AllByRecursion (λ p. p.y ≤ℤ y) (take k points) → IsNextOf points (take k points ++ point_at points k ∷ []) y (cond b (Some (point_at points k).y) None)
 next_none points k y true e lt near h =
     let p : Point = point_at points k in
-    row_first points k y p.y lt near (grind (arith, ints, e)) (omega (arith, ints)) (all_as (λ q. q.y ≤ℤ y) (IsOutside y p.y) (take k points) (λ q le. outside_below y p.y q le) h)
+    row_first points k y p.y lt near (grind (arith, ints, e)) (omega (arith, ints)) (all_weaker (λ q. q.y ≤ℤ y) (IsOutside y p.y) (take k points) (λ q le. outside_below y p.y q le) h)
 next_none points k y false e lt near h = all_push (λ p. p.y ≤ℤ y) (take k points) (point_at points k) h (grind (arith, ints, e))
 
 next_more_of : (points : List Point) (k : ℕ) (y : ℤ) (next : Option ℤ) → k < length points → All (IsPointWithin (2 ^ 24)) points → IsNextOf points (take k points) y next
@@ -98,7 +95,7 @@ cut_start points y rects e near none =
     (record {
       low = omega (arith, ints, e);
       high = omega (arith, ints, e);
-      cells = λ x z below. sym (covers_none points x z true (all_as (IsPointWithin (2 ^ 24)) (λ p. int_lt z p.y ≡ true) points (λ p h. above_all y z p e below h) (recursion_from_All (IsPointWithin (2 ^ 24)) points near)));
+      cells = λ x z below. sym (covers_none points x z true (all_weaker (IsPointWithin (2 ^ 24)) (λ p. int_lt z p.y ≡ true) points (λ p h. above_all y z p e below h) (recursion_from_All (IsPointWithin (2 ^ 24)) points near)));
       none = λ x z h. refl;
       formed = All-nil IsRect;
       inside = λ r h. All-nil (IsRectIn r);
@@ -114,7 +111,7 @@ slab_cells : (points : List Point) (y n : ℤ) (found ends : List ℤ) (x z : �
 slab_cells points y n found ends x z next crossings sorted low up =
     flips_count ends x
     ∙ ap is_odd (sum_by-IsPermutation (λ t. cond (not (int_lt x t)) 1 0) found ends sorted ∙ crossings.count x)
-    ∙ sym (covers_same points x y z (all_as (IsOutside y n) (λ p. int_lt z p.y ≡ int_lt y p.y) points (λ p h. same_side y n z p low up h) next.each))
+    ∙ sym (covers_same points x y z (all_weaker (IsOutside y n) (λ p. int_lt z p.y ≡ int_lt y p.y) points (λ p h. same_side y n z p low up h) next.each))
 
 pub ends_even : (points : List Point) (y : ℤ) (found ends : List ℤ) → IsOutline points → AreCrossings points (outline points) y found → IsPermutation found ends → is_odd (length ends) ≡ false
 ends_even points y found ends formed crossings sorted = ap is_odd (length_permutation found ends sorted ∙ crossings.many) ∙ outline_even points y formed
@@ -166,4 +163,4 @@ below_all y z p a b = grind (arith, ints)
 pub cut_end : (points : List Point) (y : ℤ) (rects : List Rect) → IsCutTo points y rects → IsNextCornerRow points points y None → (x z : ℤ) → is_in_rects rects x z ≡ polygon_covers points x z
 cut_end points y rects h next x z =
     by_lt_z z y (λ below. h.cells x z below)
-    (λ above. h.none x z above ∙ sym (covers_none points x z false (all_as (λ p. p.y ≤ℤ y) (λ p. int_lt z p.y ≡ false) points (λ p le. below_all y z p le above) next.is)))
+    (λ above. h.none x z above ∙ sym (covers_none points x z false (all_weaker (λ p. p.y ≤ℤ y) (λ p. int_lt z p.y ≡ false) points (λ p le. below_all y z p le above) next.is)))

@@ -3,6 +3,7 @@ use crate::{Refusal, Status, Stream, Which, WordRefusal, carafe};
 use cif_flatten::FlattenRefusal;
 use cif_reader::{CifRefusal, Feature};
 use clause_base::FormulaFault;
+use defect_sweep::SweepRefusal;
 use layer_map::{MapRefusal, Side};
 use layout_extract::LayoutRefusal;
 use probe_io::{MemShelf, MemSink, Name};
@@ -332,6 +333,24 @@ fn maps_are_refused_at_their_line(rt: HostRuntime) -> Result<(), Fail> {
 }
 
 #[test]
+fn a_long_map_is_refused(rt: HostRuntime) -> Result<(), Fail> {
+    let no_supply = MapRefusal::NoSupplyLine(Side::High);
+    let rows = [
+        (65_536, no_supply, "carafe: NoSupplyLine high\n"),
+        (65_537, MapRefusal::MapTooLong, "carafe: MapTooLong\n"),
+    ];
+    for (length, refusal, line) in rows {
+        let map = "#".repeat(rt.alloc(), length)?;
+        let ending = call_on(rt.alloc(), "bridges map absent 3", map.as_str(), "", &NONE)?;
+        let status = Status::Refused(Refusal::Map(refusal));
+        assert_eq!(rt; ending.status, status, "{length}");
+        assert_eq!(rt; ending.diag.bytes(), line.as_bytes(), "{length}");
+        assert_eq!(rt; ending.out.bytes().len(), 0, "{length}");
+    }
+    Ok(())
+}
+
+#[test]
 fn a_wire_has_its_name_and_layer(rt: HostRuntime) -> Result<(), Fail> {
     let map = "# one wire\n\twire m1 (M1)\nlow VSS\n\nhigh VDD";
     let cif = "L M1; B 10 10 5 5; L CMF; B 9 9 5 5; L M1; B 10 10 17 5; 94 VDD 5 5; E";
@@ -377,51 +396,65 @@ fn cells_are_reported(rt: HostRuntime) -> Result<(), Fail> {
     Ok(())
 }
 
-/// Layouts that are not unfolded or whose nets are not named, why, and the line that says so.
-const REFUSED_LAYOUTS: [(&str, LayoutRefusal, &str); 7] = [
+/// Layouts without a list of bridges, why each is refused, and the line that says so.
+const REFUSED_LAYOUTS: [(&str, Refusal, &str); 10] = [
     (
         "C 7; E",
-        LayoutRefusal::Flat(FlattenRefusal::Undefined(0, 7)),
+        Refusal::Layout(LayoutRefusal::Flat(FlattenRefusal::Undefined(0, 7))),
         "carafe: Undefined 0 7\n",
     ),
     (
         "DS 1; C 2; DF; DS 2; C 1; DF; C 1; E",
-        LayoutRefusal::Flat(FlattenRefusal::Recursive(1)),
+        Refusal::Layout(LayoutRefusal::Flat(FlattenRefusal::Recursive(1))),
         "carafe: Recursive 1\n",
     ),
     (
         "DS 1; DF; DS 2; C 1; C 1; DF; DS 3; C 2; C 2; DF; DS 4; C 3; C 3; DF; DS 5; C 4; C 4; DF; DS 6; C 5; C 5; DF; DS 7; C 6; C 6; DF; DS 8; C 7; C 7; DF; DS 9; C 8; C 8; DF; DS 10; C 9; C 9; DF; DS 11; C 10; C 10; DF; DS 12; C 11; C 11; DF; DS 13; C 12; C 12; DF; DS 14; C 13; C 13; DF; DS 15; C 14; C 14; DF; DS 16; C 15; C 15; DF; C 16; C 16; E",
-        LayoutRefusal::Flat(FlattenRefusal::TooManyCalls),
+        Refusal::Layout(LayoutRefusal::Flat(FlattenRefusal::TooManyCalls)),
         "carafe: TooManyCalls\n",
     ),
     (
         "DS 1; L CMF; B 2 2 1 1; B 2 2 1 1; DF; DS 2; C 1; C 1; DF; DS 3; C 2; C 2; DF; DS 4; C 3; C 3; DF; DS 5; C 4; C 4; DF; DS 6; C 5; C 5; DF; DS 7; C 6; C 6; DF; DS 8; C 7; C 7; DF; DS 9; C 8; C 8; DF; DS 10; C 9; C 9; DF; DS 11; C 10; C 10; DF; DS 12; C 11; C 11; DF; DS 13; C 12; C 12; DF; DS 14; C 13; C 13; DF; DS 15; C 14; C 14; DF; C 15; 94 a 0 0; E",
-        LayoutRefusal::Flat(FlattenRefusal::TooManyEdges),
+        Refusal::Layout(LayoutRefusal::Flat(FlattenRefusal::TooManyEdges)),
         "carafe: TooManyEdges\n",
     ),
     (
         "L CMF; B 2 2 8388608 0; E",
-        LayoutRefusal::Flat(FlattenRefusal::OutOfRange(7)),
+        Refusal::Layout(LayoutRefusal::Flat(FlattenRefusal::OutOfRange(7))),
         "carafe: OutOfRange 7\n",
     ),
     (
+        "DS 1; L CMF; B 2 2 1 1; DF; DS 2; C 1; C 1 T 4 4; DF; DS 3; C 2; C 2 T 8 8; DF; DS 4; C 3; C 3 T 16 16; DF; DS 5; C 4; C 4 T 32 32; DF; DS 6; C 5; C 5 T 64 64; DF; DS 7; C 6; C 6 T 128 128; DF; DS 8; C 7; C 7 T 256 256; DF; DS 9; C 8; C 8 T 512 512; DF; DS 10; C 9; C 9 T 1024 1024; DF; DS 11; C 10; C 10 T 2048 2048; DF; DS 12; C 11; C 11 T 4096 4096; DF; C 12; E",
+        Refusal::Layout(LayoutRefusal::Flat(FlattenRefusal::TooFine)),
+        "carafe: TooFine\n",
+    ),
+    (
+        "DS 1; L CMF; B 2 2 1 1; DF; DS 2; C 1; C 1 T 4 0; DF; DS 3; C 2; C 2 T 8 0; DF; DS 4; C 3; C 3 T 16 0; DF; DS 5; C 4; C 4 T 32 0; DF; DS 6; C 5; C 5 T 64 0; DF; DS 7; C 6; C 6 T 128 0; DF; DS 8; C 7; C 7 T 256 0; DF; DS 9; C 8; C 8 T 0 4; DF; DS 10; C 9; C 9 T 0 8; DF; DS 11; C 10; C 10 T 0 16; DF; DS 12; C 11; C 11 T 0 32; DF; DS 13; C 12; C 12 T 0 64; DF; DS 14; C 13; C 13 T 0 128; DF; DS 15; C 14; C 14 T 0 256; DF; C 15; E",
+        Refusal::Layout(LayoutRefusal::TooManyNets),
+        "carafe: TooManyNets\n",
+    ),
+    (
         "L CMF; B 10 10 5 5; B 10 10 15 15; 94 S 10 10 CMF; E",
-        LayoutRefusal::LabelAmbiguous(35),
+        Refusal::Layout(LayoutRefusal::LabelAmbiguous(35)),
         "carafe: LabelAmbiguous 35\n",
     ),
     (
         "94 S 10 10 CMF; L CMF; B 10 10 5 5; B 10 10 15 15; 94 T 10 10; E",
-        LayoutRefusal::LabelAmbiguous(0),
+        Refusal::Layout(LayoutRefusal::LabelAmbiguous(0)),
         "carafe: LabelAmbiguous 0\n",
+    ),
+    (
+        "DS 1; L CMF; B 2 2 1 1; DF; DS 2; C 1; C 1 T 4 0; DF; DS 3; C 2; C 2 T 8 0; DF; DS 4; C 3; C 3 T 16 0; DF; DS 5; C 4; C 4 T 32 0; DF; DS 6; C 5; C 5 T 64 0; DF; DS 7; C 6; C 6 T 0 4; DF; DS 8; C 7; C 7 T 0 8; DF; DS 9; C 8; C 8 T 0 16; DF; DS 10; C 9; C 9 T 0 32; DF; C 10; E",
+        Refusal::Sweep(SweepRefusal::TooManyBridges),
+        "carafe: TooManyBridges\n",
     ),
 ];
 
 #[test]
 fn layouts_are_refused(rt: HostRuntime) -> Result<(), Fail> {
     for (text, refusal, line) in REFUSED_LAYOUTS {
-        let ending = call(rt.alloc(), "bridges map cif 1", text, &NONE)?;
-        let status = Status::Refused(Refusal::Layout(refusal));
-        assert_eq!(rt; ending.status, status, "{line}");
+        let ending = call(rt.alloc(), "bridges map cif 1000", text, &NONE)?;
+        assert_eq!(rt; ending.status, Status::Refused(refusal), "{line}");
         assert_eq!(rt; ending.status.exit_number(), 2, "{line}");
         assert_eq!(rt; ending.diag.bytes(), line.as_bytes(), "{line}");
         assert_eq!(rt; ending.out.bytes().len(), 0, "{line}");

@@ -75,6 +75,23 @@ class Map:
 # position of its command and one of these.
 
 
+def moved(point, steps):
+    """The point, moved by the steps of calls, the innermost call first."""
+    x, y = point
+    for kind, *by in steps:
+        if kind == "T":
+            x, y = x + by[0], y + by[1]
+        elif kind == "X":
+            x = -x
+        elif kind == "Y":
+            y = -y
+        elif by[1] == 0:
+            x, y = (x, y) if by[0] > 0 else (-x, -y)
+        else:
+            x, y = (-y, x) if by[1] > 0 else (y, -x)
+    return x, y
+
+
 class Layout:
     """The items of the top and of each symbol, and the text that spells them."""
 

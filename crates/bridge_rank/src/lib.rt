@@ -12,6 +12,3 @@ mod ranking;
 
 pub use laws::one_ranking;
 pub use ranking::order;
-
-#[cfg(test)]
-mod tests;

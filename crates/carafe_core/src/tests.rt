@@ -19,6 +19,14 @@ const CORNER: &str = "L CMF; B 10 10 5 5; B 10 10 15 15; 94 Vdd 5 5; 94 GND 15 1
 const THREE_BOXES: &str =
     "L CMF; B 2 10 1 5; B 2 10 5 5; B 2 10 9 5; 94 Vdd 1 5 CMF; 94 GND 5 5 CMF; E";
 
+/// Three boxes with gaps of two units, and one that lies lower.
+const FOUR_BOXES: &str = "L CMF; B 10 1 5 -4; B 2 10 1 5; B 2 10 5 5; B 2 10 9 5; E";
+
+const TWO_WIRES: &str = "L CMF; W 4 0 0 10 0; W 4 0 8 10 8; E";
+
+/// A polygon that crosses itself at (2, 2), where its two halves share a corner.
+const CROSSED: &str = "L CMF; P 0 0 2 0 2 4 5 4 5 2 0 2; E";
+
 const NOISY: &str =
     "L CMF; BOX LENGTH 10 WIDTH 10 CENTER 5,5; (another (one)); B10 10 17 5 -1 0;; 94 Vdd 5 5; 94 GND 17 5; End";
 
@@ -42,6 +50,10 @@ const TWO_METALS: &str =
 
 const VIAS: &str =
     "L CMF; B 10 10 5 5; B 10 10 17 5; L CMS; B 10 10 5 5; B 4 10 40 5; L CVA; B 2 2 5 5; B 2 2 17 5; 94 Vdd 5 5 CMS; 94 GND 17 5 CMF; 94 VDD 40 5 CMS; 94 deep 99 99; E";
+
+/// Two nets that lie side by side in two metals, and one that lies over the first and is far from both in its own metal.
+const STACKED: &str =
+    "L CMF; B 10 30 5 15; B 10 10 17 5; L CMS; B 10 10 5 5; B 10 10 16 5; B 4 4 5 25; L CVA; B 2 2 5 5; B 2 2 17 5; E";
 
 /// Which calls of each device fail, and how many bytes a call moves.
 #[derive(Clone, Copy)]
@@ -122,7 +134,7 @@ fn call_over(
 }
 
 /// Words, layouts on a map of one wire, and the reports on them.
-const REPORTS: [(&str, &str, &str); 11] = [
+const REPORTS: [(&str, &str, &str); 14] = [
     (
         "bridges map cif 3",
         TWO_BOXES,
@@ -162,6 +174,21 @@ const REPORTS: [(&str, &str, &str); 11] = [
         "bridges map cif 7",
         THREE_BOXES,
         "carafe bridges 1\nside 7\nnets 3\nlabels 2 0 0\nbridges 3\nbridge 1 Vdd GND 297 metal=297\nbridge 2 GND #2 297 metal=297\nbridge 3 Vdd #2 33 metal=33\ntally bridges 3\n",
+    ),
+    (
+        "bridges map cif 5",
+        TWO_WIRES,
+        "carafe bridges 1\nside 5\nnets 2\nlabels 0 0 0\nbridges 1\nbridge 1 #0 #1 37 metal=37\ntally bridges 1\n",
+    ),
+    (
+        "bridges map cif 1",
+        CROSSED,
+        "carafe bridges 1\nside 1\nnets 2\nlabels 0 0 0\nbridges 1\nbridge 1 #0 #1 1 metal=1\ntally bridges 1\n",
+    ),
+    (
+        "bridges map cif 7",
+        FOUR_BOXES,
+        "carafe bridges 1\nside 7\nnets 4\nlabels 0 0 0\nbridges 6\nbridge 1 #1 #2 297 metal=297\nbridge 2 #2 #3 297 metal=297\nbridge 3 #0 #1 102 metal=102\nbridge 4 #0 #2 102 metal=102\nbridge 5 #0 #3 102 metal=102\nbridge 6 #1 #3 33 metal=33\ntally bridges 6\n",
     ),
     (
         "bridges map cif 32768",
@@ -364,7 +391,7 @@ fn a_wire_has_its_name_and_layer(rt: HostRuntime) -> Result<(), Fail> {
 }
 
 /// Words, maps, layouts and the reports on them.
-const CELL_REPORTS: [(&str, &str, &str, &str); 3] = [
+const CELL_REPORTS: [(&str, &str, &str, &str); 4] = [
     (
         "bridges map cif 55",
         CELLS,
@@ -382,6 +409,12 @@ const CELL_REPORTS: [(&str, &str, &str, &str); 3] = [
         TWO_METALS,
         VIAS,
         "carafe bridges 1\nside 3\nnets 2\nlabels 3 1 0\nbridges 1\nbridge 1 VDD GND 25 m1=25\ntally bridges 1\n",
+    ),
+    (
+        "bridges map cif 3",
+        TWO_METALS,
+        STACKED,
+        "carafe bridges 1\nside 3\nnets 3\nlabels 0 0 0\nbridges 1\nbridge 1 #0 #1 100 m1=25 m2=75\ntally bridges 1\n",
     ),
 ];
 

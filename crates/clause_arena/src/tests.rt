@@ -15,10 +15,10 @@ fn references_give_their_clauses(rt: HostRuntime) -> Result<(), Fail> {
     ];
     let mut arena = Arena::new(alloc);
     for (numbers, sorted) in rows {
-        let mut lits = Vec::new(alloc);
-        for number in numbers {
-            lits.push(Lit::new(*number).ok_or("a literal")?)?;
-        }
+        let lits: Vec<Lit> = numbers
+            .iter()
+            .filter_map(|number| Lit::new(*number))
+            .collect(alloc)?;
         let clause = normal(alloc, lits.as_slice())?.ok_or("no tautology")?;
         let at = arena.add(clause.as_slice())?;
         let kept = arena.lits(at);
@@ -39,10 +39,10 @@ fn a_store_keeps_clauses_as_they_are(rt: HostRuntime) -> Result<(), Fail> {
     let rows: [&[i32]; 4] = [&[2, -1, 2], &[], &[1, -1], &[3]];
     let mut store = Store::new(alloc);
     for numbers in rows {
-        let mut lits = Vec::new(alloc);
-        for number in numbers {
-            lits.push(Lit::new(*number).ok_or("a literal")?)?;
-        }
+        let lits: Vec<Lit> = numbers
+            .iter()
+            .filter_map(|number| Lit::new(*number))
+            .collect(alloc)?;
         let place = store.len();
         store.add(lits.as_slice())?;
         assert_eq!(rt; store.clause(place), lits.as_slice());

@@ -6,13 +6,10 @@ use std::test::Fail;
 
 /// The literals of these numbers.
 fn lits(alloc: Global, numbers: &[i32]) -> Result<Vec<Lit>, AllocError> {
-    let mut lits = Vec::new(alloc);
-    for number in numbers {
-        if let Some(lit) = Lit::new(*number) {
-            lits.push(lit)?;
-        }
-    }
-    Ok(lits)
+    numbers
+        .iter()
+        .filter_map(|number| Lit::new(*number))
+        .collect(alloc)
 }
 
 #[test]

@@ -3,10 +3,9 @@
 ghost use Rattle.std.specs.Prelude.{◌≡◌, ◌<◌, true, []};
 
 use crate::{SolveFault, Verdict, solve};
-use clause_base::{Formula, read_formula};
+use clause_base::read_formula;
 use proof_sinks::{ProofSink, StepCheck, StepFail, StepList, StepPair};
 use refutation_check::Checker;
-use std::alloc::Global;
 use std::test::Fail;
 
 /// Four pigeons fit three holes: the variable 3 (i - 1) + j says that the pigeon i sits in the hole j.
@@ -39,14 +38,6 @@ fn end_of(verdict: &Verdict) -> End {
     }
 }
 
-/// The formula that the text spells.
-fn formula(alloc: Global, text: &[u8]) -> Result<Formula, Fail> {
-    match read_formula(alloc, text) {
-        Ok(formula) => Ok(formula),
-        Err(_) => Err("the text spells no formula".into()),
-    }
-}
-
 #[test]
 fn derivations_are_checked(rt: HostRuntime) -> Result<(), Fail> {
     let alloc = rt.alloc();
@@ -64,7 +55,7 @@ fn derivations_are_checked(rt: HostRuntime) -> Result<(), Fail> {
         if budget == 0 {
             continue;
         }
-        let formula = formula(alloc, text)?;
+        let formula = read_formula(alloc, text).map_err(|_| Fail::from("a formula"))?;
         let check = StepCheck::new(alloc, Checker::new(alloc, formula.vars())?);
         let mut pair = StepPair::new(StepList::new(alloc), check);
         let Ok(verdict) = solve(alloc, &formula, budget, &mut pair) else {
@@ -86,7 +77,7 @@ fn each_line_may_fail(rt: HostRuntime) -> Result<(), Fail> {
     let alloc = rt.alloc();
     let rows: [&[u8]; 2] = [PIGEONS, SQUARE];
     for text in rows {
-        let formula = formula(alloc, text)?;
+        let formula = read_formula(alloc, text).map_err(|_| Fail::from("a formula"))?;
         let mut is_done = false;
         for call in 0..1000 {
             let mut sink = StepFail::new(StepList::new(alloc), call);

@@ -1,4 +1,4 @@
-//! Names of small layouts.
+//! Nets of small layouts, and their names.
 
 use crate::{LayoutRefusal, Named, name_nets};
 use layer_map::LayerMap;
@@ -34,6 +34,43 @@ fn names(alloc: Global, named: &Named) -> Result<Vec<u8>, AllocError> {
         text.push(b' ')?;
     }
     Ok(text)
+}
+
+/// Layouts of poly, metal and cuts, and the names of their nets, each with a blank behind it.
+const NETS: [(&str, &str, &str); 7] = [
+    ("a cut alone", "L CCP;B 2 2 1 1;E", ""),
+    ("corners meet", "L CPG;B 2 2 1 1;B 2 2 3 3;E", "#0 #1 "),
+    ("edges meet", "L CPG;B 2 2 1 1;B 2 4 3 2;E", "#0 "),
+    (
+        "a cut in both",
+        "L CPG;B 4 4 2 2;L CMF;B 8 2 5 2;L CCP;B 2 2 3 2;E",
+        "#0 ",
+    ),
+    (
+        "both, and no cut",
+        "L CPG;B 4 4 2 2;L CMF;B 8 2 5 2;E",
+        "#0 #1 ",
+    ),
+    (
+        "a cut over one and then the other",
+        "L CPG;B 4 4 2 2;L CMF;B 4 4 6 2;L CCP;B 4 2 4 2;E",
+        "#0 #1 ",
+    ),
+    (
+        "two legs, and a bar over both",
+        "L CPG;B 2 10 1 5;B 2 10 9 5;L CMF;B 10 2 5 9;L CCP;B 10 2 5 9;E",
+        "#0 ",
+    ),
+];
+
+#[test]
+fn nets_are_counted(rt: HostRuntime) -> Result<(), Fail> {
+    for (shows, text, expected) in NETS {
+        let named = name(rt.alloc(), text)??;
+        let found = names(rt.alloc(), &named)?;
+        assert!(rt; found.as_slice() == expected.as_bytes(), "{}", shows);
+    }
+    Ok(())
 }
 
 /// The labels of two blocks of metal, the names of the nets, each with a blank behind it, and how many labels are bound,

@@ -1,16 +1,16 @@
 //! Masks of small layouts.
 
-ghost use Rattle.std.specs.Prelude.{◌^◌, OnOk, IfOk};
+ghost use Rattle.std.specs.Prelude.{◌^◌, OnOk};
 ghost use Rattle.std.specs.List.{All};
-ghost use Rattle.plane_geom.specs.Bounds.{IsPointWithin, IsRectWithin};
-ghost use Rattle.plane_geom.specs.Covering.{IsOutline, IsRect};
+ghost use Rattle.plane_geom.specs.Bounds.{IsRectWithin};
+ghost use Rattle.plane_geom.specs.Covering.{IsRect};
 ghost use Rattle.cif_flatten.specs.Flat.{IsShapeWithin};
 
 use crate::evaluate;
 use cif_flatten::{Draw, Flat};
 use layer_map::read;
 use mask_region::{Masks, Strip};
-use plane_geom::{Point, Rect, Shape, Short};
+use plane_geom::{Rect, Shape, Short};
 use std::alloc::{AllocError, Global};
 use std::test::Fail;
 
@@ -36,29 +36,6 @@ fn block(x: i8, y: i8, width: u8, height: u8) -> Shape
     Shape::Block(rect(x, y, width, height))
 }
 
-/// The points of an outline that crosses itself at (2, 2).
-fn crossing(alloc: Global) -> Result<Vec<Point>, AllocError>
-    ensures formed { IfOk result (λ v. IsOutline v.items) }
-    ensures within { IfOk result (λ v. All (IsPointWithin (2 ^ 24)) v.items) }
-{
-    let mut points = Vec::new(alloc);
-    points.push(Point { x: 0, y: 0 })?;
-    points.push(Point { x: 2, y: 0 })?;
-    points.push(Point { x: 2, y: 4 })?;
-    points.push(Point { x: 5, y: 4 })?;
-    points.push(Point { x: 5, y: 2 })?;
-    points.push(Point { x: 0, y: 2 })?;
-    Ok(points)
-}
-
-/// A polygon that covers a square of 2 at (0, 0), and three by two cells at (2, 2).
-fn crossed(alloc: Global) -> Result<Shape, AllocError>
-    ensures { IfOk result (λ s. IsShapeWithin (2 ^ 24) s) }
-{
-    let points = crossing(alloc)?;
-    Ok(Shape::Polygon(points))
-}
-
 /// Draws the shape on a layer.
 fn draw(draws: &mut Vec<Draw>, layer: &str, shape: Shape) -> Result<(), AllocError>
     requires shape { IsShapeWithin (2 ^ 24) shape }
@@ -72,13 +49,12 @@ fn draw(draws: &mut Vec<Draw>, layer: &str, shape: Shape) -> Result<(), AllocErr
     Ok(())
 }
 
-/// The layout of some boxes, and of the crossed polygon on the layer NP.
+/// The layout of some boxes.
 fn layout(alloc: Global, boxes: &[Drawn]) -> Result<Flat, AllocError> {
     let mut draws = Vec::new(alloc);
     for (layer, x, y, width, height) in boxes {
         draw(&mut draws, layer, block(*x, *y, *width, *height))?;
     }
-    draw(&mut draws, "NP", crossed(alloc)?)?;
     Ok(Flat::new(draws, Vec::new(alloc)))
 }
 
@@ -104,7 +80,7 @@ fn evaluates_expressions(rt: HostRuntime) -> Result<(), Fail> {
         ("CCA", 2, 2, 4, 4),
     ];
     let flat = layout(rt.alloc(), &boxes)?;
-    let rows: [(&str, &[Strip]); 7] = [
+    let rows: [(&str, &[Strip]); 6] = [
         (
             "wire w CAA*CSN*!CPG",
             &[strip(0, 4, 0, 4), strip(0, 4, 6, 8)],
@@ -123,7 +99,6 @@ fn evaluates_expressions(rt: HostRuntime) -> Result<(), Fail> {
             "wire w CCA",
             &[strip(0, 2, 0, 4), strip(2, 4, 0, 6), strip(4, 6, 2, 6)],
         ),
-        ("wire w NP", &[strip(0, 2, 0, 2), strip(2, 4, 2, 5)]),
     ];
     for (line, strips) in rows {
         let masks = masks(rt.alloc(), line, &flat)?;

@@ -27,6 +27,3 @@ pub use node::Node;
 pub use refusal::TraceRefusal;
 pub use traced::Traced;
 pub use tracing::trace;
-
-#[cfg(test)]
-mod tests;

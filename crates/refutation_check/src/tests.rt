@@ -7,12 +7,10 @@ use std::test::Fail;
 
 /// The clause of these numbers.
 fn clause(alloc: Global, numbers: &[i32]) -> Result<Clause, AllocError> {
-    let mut lits = Vec::new(alloc);
-    for number in numbers {
-        if let Some(lit) = Lit::new(*number) {
-            lits.push(lit)?;
-        }
-    }
+    let lits: Vec<Lit> = numbers
+        .iter()
+        .filter_map(|number| Lit::new(*number))
+        .collect(alloc)?;
     Clause::new(alloc, lits.as_slice())
 }
 

@@ -21,10 +21,7 @@ const UNIT: &[u8] = b"carafe solve 1\nbudget 1\nformula 1 1\nf 1 0\nvalues 1 0\n
 
 /// The formula that the text spells.
 fn formula(alloc: Global, text: &[u8]) -> Result<Formula, Fail> {
-    match read_formula(alloc, text) {
-        Ok(formula) => Ok(formula),
-        Err(_) => Err("the text spells no formula".into()),
-    }
+    read_formula(alloc, text).map_err(|_| Fail::from("the text spells no formula"))
 }
 
 /// Says that the first clause is given, and that the second follows by the first.

@@ -410,7 +410,7 @@ IsAnswer words shelf out diag out_faults diag_faults (OpenFault which) = IsToldO
 IsAnswer words shelf out diag out_faults diag_faults (ReadFault which) = IsToldOutcome words shelf out diag out_faults diag_faults (ReadFault which)
 IsAnswer words shelf out diag out_faults diag_faults NoMemory = IsToldOutcome words shelf out diag out_faults diag_faults NoMemory
 
--- the statuses that tell of a failed start, of a failed read, and of a report that may be cut off
+-- the statuses that tell of a failed start, of a failed read, and of a report that is cut off
 abbrev pub is_open_fault : Status → Bool
 is_open_fault (OpenFault which) = true
 is_open_fault _ = false
@@ -421,7 +421,6 @@ is_read_fault _ = false
 
 abbrev pub is_cut_off : Status → Bool
 is_cut_off (WriteFault Out) = true
-is_cut_off NoMemory = true
 is_cut_off _ = false
 
 -- the statuses that stand whatever becomes of their line, or tell that the line could not be written

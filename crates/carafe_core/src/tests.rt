@@ -645,26 +645,34 @@ fn searches_are_reported(rt: HostRuntime) -> Result<(), Fail> {
 
 // The formula is started at call 0, and its 14 bytes are read by the next.
 #[test]
-fn faults_of_a_formula_name_it(rt: HostRuntime) -> Result<(), Fail> {
+fn faults_of_a_search_name_their_device(rt: HostRuntime) -> Result<(), Fail> {
     let words = "solve formula 1";
     let open = (
         Status::OpenFault(Which::Formula),
         "carafe: OpenFault formula\n",
+        4,
     );
     let read = (
         Status::ReadFault(Which::Formula),
         "carafe: ReadFault formula\n",
+        4,
+    );
+    let write = (
+        Status::WriteFault(Stream::Out),
+        "carafe: WriteFault out\n",
+        5,
     );
     let rows = [
         ("solve absent 1", NONE, open),
         (words, at_shelf(&[0]), open),
         (words, at_shelf(&[1]), read),
         (words, at_shelf(&[2]), read),
+        (words, at_out(&[0]), write),
     ];
-    for (words, faults, (status, line)) in rows {
+    for (words, faults, (status, line, exit)) in rows {
         let ending = call_search(rt.alloc(), words, "p cnf 1 1 1 0\n", &faults)?;
         assert_eq!(rt; ending.status, status, "{words}");
-        assert_eq!(rt; ending.status.exit_number(), 4, "{words}");
+        assert_eq!(rt; ending.status.exit_number(), exit, "{words}");
         assert_eq!(rt; ending.diag.bytes(), line.as_bytes(), "{words}");
         assert_eq!(rt; ending.out.bytes().len(), 0, "{words}");
     }

@@ -11,10 +11,12 @@ use Rattle.conflict_solver.specs.declared.verdict.SolveFault.{SolveFault}
 use Rattle.conflict_solver.specs.declared.verdict.SolveFault.TheVariants.{Sink}
 use Rattle.conflict_solver.specs.Deriving.{AreDerived, line_clauses}
 
--- What a call keeps of its sink: its count of faults never falls, and rose where the answer is its fault.
+-- What a call keeps of its sink: its count of faults never falls, rose where the answer is its fault, and is as it was
+-- where it is another.
 pub record KeepsSink {T : Type 0} (old_faults new_faults : ℕ) (old_before new_before : Option (List ℕ)) (result : Result T SolveFault) : Type 0 where
   pub later : old_faults ≤ new_faults
   pub cause : result ≡ Err Sink → Rose old_faults new_faults
+  pub quiet : result ≢ Err Sink → new_faults ≡ old_faults
   pub before : KeepsTold old_before new_before
 
 -- So many clauses were given, before a level began: each is watched, or one of them is false.

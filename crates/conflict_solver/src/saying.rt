@@ -1,6 +1,6 @@
 //! Lines that are said to a sink, with the faults of a search.
 
-ghost use Rattle.std.specs.Prelude.{◌≡◌, ◌⊎◌, ◌<◌, ◌≤◌, ◌^◌, true, [], ◌∷◌, ◌++◌, length, Ok, Err, OnOk, OnErr};
+ghost use Rattle.std.specs.Prelude.{◌≡◌, ◌≢◌, ◌⊎◌, ◌<◌, ◌≤◌, ◌^◌, true, [], ◌∷◌, ◌++◌, length, Ok, Err, OnOk, OnErr};
 ghost use Rattle.probe_io.specs.Causes.{Rose};
 ghost use Rattle.proof_sinks.specs.Calls.{KeepsTold};
 ghost use Rattle.proof_sinks.specs.declared.lines.Said.{Said};
@@ -18,6 +18,7 @@ pub(crate) fn say_given<P: ProofSink>(sink: &mut P, clause: &[Lit]) -> Result<()
     ensures live { OnOk result (P.live sink.new ≡ true) }
     ensures cause { result ≡ Err SolveFault.Sink → Rose (P.faults sink.old) (P.faults sink.new) }
     ensures later { P.faults sink.old ≤ P.faults sink.new }
+    ensures quiet { result ≢ Err SolveFault.Sink → P.faults sink.new ≡ P.faults sink.old }
     ensures before { KeepsTold (P.before sink.old) (P.before sink.new) }
 {
     match sink.axiom(clause) {
@@ -40,6 +41,7 @@ pub(crate) fn say_derived<P: ProofSink>(
     ensures live { OnOk result (P.live sink.new ≡ true) }
     ensures cause { result ≡ Err SolveFault.Sink → Rose (P.faults sink.old) (P.faults sink.new) }
     ensures later { P.faults sink.old ≤ P.faults sink.new }
+    ensures quiet { result ≢ Err SolveFault.Sink → P.faults sink.new ≡ P.faults sink.old }
     ensures before { KeepsTold (P.before sink.old) (P.before sink.new) }
 {
     match sink.derived(clause, hints) {

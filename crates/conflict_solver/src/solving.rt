@@ -38,8 +38,8 @@ struct Solver {
 
 /// Finds values that solve the formula, or derives the empty clause from it. It says the formula's clauses to the sink,
 /// in order, and then each clause that it derives with its hints. At most `budget` of these aren't empty: a search
-/// that wants more ends with `Undecided`. It answers `Sink` only where the sink's count of faults rose, and `NoMemory`
-/// only where no memory was found, here or by the sink. After each of these some first clauses of the formula were
+/// that wants more ends with `Undecided`. It answers `Sink` only where the sink's count of faults rose, which
+/// no other answer raises, and `NoMemory` only where no memory was found, here or by the sink. After each of these some first clauses of the formula were
 /// said, or all of them and some derived lines.
 pub fn solve<P: ProofSink>(
     alloc: Global,
@@ -57,6 +57,7 @@ pub fn solve<P: ProofSink>(
     ensures before { KeepsTold (P.before sink.old) (P.before sink.new) }
     ensures cause { result ≡ Err SolveFault.Sink → Rose (P.faults sink.old) (P.faults sink.new) }
     ensures later { P.faults sink.old ≤ P.faults sink.new }
+    ensures quiet { result ≢ Err SolveFault.Sink → P.faults sink.new ≡ P.faults sink.old }
 {
     let mut solver = begin(alloc, formula.vars(), budget)?;
     match give_all(&mut solver, formula, sink)? {

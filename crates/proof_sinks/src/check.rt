@@ -1,6 +1,6 @@
 //! A sink that puts the lines through a checker.
 
-ghost use Rattle.std.specs.Prelude.{◌≡◌, ◌<◌, ◌≤◌, ◌+◌, ◌-◌, ◌^◌, true, false, min, [], ◌∷◌, ◌++◌, length, None, Err, OnOk, OnErr};
+ghost use Rattle.std.specs.Prelude.{◌≡◌, ◌≢◌, ◌<◌, ◌≤◌, ◌+◌, ◌-◌, ◌^◌, true, false, min, [], ◌∷◌, ◌++◌, length, None, Err, OnOk, OnErr};
 ghost use Rattle.clause_base.specs.Formulas.{IsClauseWithin};
 ghost use Rattle.refutation_check.specs.Following.{Follows};
 ghost use Rattle.refutation_check.specs.Keeping.{nothing_kept, with_axiom, with_derived};
@@ -68,7 +68,7 @@ impl StepCheck {
         ensures checker { self.new.checker ≡ self.old.checker }
         ensures said { self.new.said ≡ self.old.said }
         ensures counted { taken ≡ Err StepFault.Failed → self.new.faults ≡ min (self.old.faults + 1) (2 ^ 64 - 1) }
-        ensures quiet { taken ≡ Err StepFault.NoMemory → self.new.faults ≡ self.old.faults }
+        ensures quiet { taken ≢ Err StepFault.Failed → self.new.faults ≡ self.old.faults }
         ensures later { self.old.faults ≤ self.new.faults }
     {
         if taken.is_err() {
@@ -103,8 +103,7 @@ impl ProofSink for StepCheck {
         ensures stays { OnErr result (self.new.said ≡ self.old.said) }
         ensures checker_stays { OnErr result (self.new.checker ≡ self.old.checker) }
         ensures counted { result ≡ Err StepFault.Failed → self.new.faults ≡ min (self.old.faults + 1) (2 ^ 64 - 1) }
-        ensures quiet { result ≡ Err StepFault.NoMemory → self.new.faults ≡ self.old.faults }
-        ensures sound { OnOk result (self.new.faults ≡ self.old.faults) }
+        ensures quiet { result ≢ Err StepFault.Failed → self.new.faults ≡ self.old.faults }
         ensures later { self.old.faults ≤ self.new.faults }
     {
         let taken = take_axiom(&mut self.checker, &mut self.lines, clause);
@@ -128,8 +127,7 @@ impl ProofSink for StepCheck {
         ensures stays { OnErr result (self.new.said ≡ self.old.said) }
         ensures checker_stays { OnErr result (self.new.checker ≡ self.old.checker) }
         ensures counted { result ≡ Err StepFault.Failed → self.new.faults ≡ min (self.old.faults + 1) (2 ^ 64 - 1) }
-        ensures quiet { result ≡ Err StepFault.NoMemory → self.new.faults ≡ self.old.faults }
-        ensures sound { OnOk result (self.new.faults ≡ self.old.faults) }
+        ensures quiet { result ≢ Err StepFault.Failed → self.new.faults ≡ self.old.faults }
         ensures later { self.old.faults ≤ self.new.faults }
     {
         let taken = take_derived(&mut self.checker, &mut self.lines, clause, hints);

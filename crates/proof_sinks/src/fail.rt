@@ -1,6 +1,6 @@
 //! A sink that fails at a chosen call.
 
-ghost use Rattle.std.specs.Prelude.{◌≡◌, ◌⊎◌, ◌<◌, ◌≤◌, ◌-◌, ◌^◌, true, false, [], ◌∷◌, ◌++◌, length, Err, OnOk, OnErr};
+ghost use Rattle.std.specs.Prelude.{◌≡◌, ◌≢◌, ◌⊎◌, ◌<◌, ◌≤◌, ◌-◌, ◌^◌, true, false, [], ◌∷◌, ◌++◌, length, Err, OnOk, OnErr};
 ghost use Rattle.probe_io.specs.Causes.{Rose};
 ghost use Rattle.proof_sinks.specs.Calls.{KeepsTold};
 ghost use Rattle.proof_sinks.specs.Views.{is_open, all_faults};
@@ -81,6 +81,7 @@ impl<P: ProofSink + Drop> ProofSink for StepFail<P> {
             ⊎ (P.said self.new.inner ≡ P.said self.old.inner ++ Said.Axiom clause.now ∷ []) }
         ensures cause { result ≡ Err StepFault.Failed → (self.old.left ≡ 0) ⊎ Rose (P.faults self.old.inner) (P.faults self.new.inner) }
         ensures later { P.faults self.old.inner ≤ P.faults self.new.inner }
+        ensures quiet { result ≢ Err StepFault.Failed → P.faults self.new.inner ≡ P.faults self.old.inner }
         ensures before { KeepsTold (P.before self.old.inner) (P.before self.new.inner) }
     {
         if self.is_failing_call() {
@@ -103,6 +104,7 @@ impl<P: ProofSink + Drop> ProofSink for StepFail<P> {
             ⊎ (P.said self.new.inner ≡ P.said self.old.inner ++ Said.Derived clause.now hints.now ∷ []) }
         ensures cause { result ≡ Err StepFault.Failed → (self.old.left ≡ 0) ⊎ Rose (P.faults self.old.inner) (P.faults self.new.inner) }
         ensures later { P.faults self.old.inner ≤ P.faults self.new.inner }
+        ensures quiet { result ≢ Err StepFault.Failed → P.faults self.new.inner ≡ P.faults self.old.inner }
         ensures before { KeepsTold (P.before self.old.inner) (P.before self.new.inner) }
     {
         if self.is_failing_call() {

@@ -1,6 +1,6 @@
 //! A sink that gives each line to two sinks.
 
-ghost use Rattle.std.specs.Prelude.{◌≡◌, ◌⊎◌, ◌<◌, ◌≤◌, ◌&&◌, ◌+◌, ◌-◌, ◌^◌, true, false, [], ◌∷◌, ◌++◌, length, min, None, Err, OnOk, OnErr};
+ghost use Rattle.std.specs.Prelude.{◌≡◌, ◌≢◌, ◌⊎◌, ◌<◌, ◌≤◌, ◌&&◌, ◌+◌, ◌-◌, ◌^◌, true, false, [], ◌∷◌, ◌++◌, length, min, None, Err, OnOk, OnErr};
 ghost use Rattle.probe_io.specs.Causes.{Rose};
 ghost use Rattle.proof_sinks.specs.Views.{AreSame};
 ghost use Rattle.proof_sinks.specs.declared.lines.Said.{Said};
@@ -82,6 +82,8 @@ impl<A: ProofSink + Drop, B: ProofSink + Drop> ProofSink for StepPair<A, B> {
             ⊎ Rose (B.faults self.old.second) (B.faults self.new.second) }
         ensures first_later { A.faults self.old.first ≤ A.faults self.new.first }
         ensures second_later { B.faults self.old.second ≤ B.faults self.new.second }
+        ensures first_quiet { result ≢ Err StepFault.Failed → A.faults self.new.first ≡ A.faults self.old.first }
+        ensures second_quiet { result ≢ Err StepFault.Failed → B.faults self.new.second ≡ B.faults self.old.second }
     {
         self.first.axiom(clause)?;
         self.second.axiom(clause)
@@ -103,6 +105,8 @@ impl<A: ProofSink + Drop, B: ProofSink + Drop> ProofSink for StepPair<A, B> {
             ⊎ Rose (B.faults self.old.second) (B.faults self.new.second) }
         ensures first_later { A.faults self.old.first ≤ A.faults self.new.first }
         ensures second_later { B.faults self.old.second ≤ B.faults self.new.second }
+        ensures first_quiet { result ≢ Err StepFault.Failed → A.faults self.new.first ≡ A.faults self.old.first }
+        ensures second_quiet { result ≢ Err StepFault.Failed → B.faults self.new.second ≡ B.faults self.old.second }
     {
         self.first.derived(clause, hints)?;
         self.second.derived(clause, hints)

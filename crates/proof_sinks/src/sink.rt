@@ -1,6 +1,6 @@
 //! The trait of what takes the lines of a proof, and its errors.
 
-ghost use Rattle.std.specs.Prelude.{◌≡◌, ◌⊎◌, ℕ, ◌<◌, ◌≤◌, ◌^◌, Bool, true, false, List, [], ◌∷◌, ◌++◌, length, Option, Ok, Err, OnOk, OnErr};
+ghost use Rattle.std.specs.Prelude.{◌≡◌, ◌≢◌, ◌⊎◌, ℕ, ◌<◌, ◌≤◌, ◌^◌, Bool, true, false, List, [], ◌∷◌, ◌++◌, length, Option, Ok, Err, OnOk, OnErr};
 ghost use Rattle.probe_io.specs.Causes.{Rose};
 ghost use Rattle.proof_sinks.specs.Calls.{KeepsTold};
 ghost use Rattle.proof_sinks.specs.declared.lines.Said.{Said};
@@ -23,7 +23,8 @@ pub enum StepFault {
 /// What takes the lines of a proof.
 ///
 /// `said` are the lines so far. `live` tells whether another one may be said: until the first error. `before` is the
-/// text that stood before the first line, where the sink tells it. `faults` counts failed calls, and never falls.
+/// text that stood before the first line, where the sink tells it. `faults` counts failed calls: it never falls, and a
+/// call that doesn't answer `Failed` leaves it as it was.
 pub trait ProofSink {
     ghost said: { Self → List Said };
 
@@ -46,6 +47,7 @@ pub trait ProofSink {
 
         ensures cause { result ≡ Err StepFault.Failed → Rose (faults self.old) (faults self.new) }
         ensures later { faults self.old ≤ faults self.new }
+        ensures quiet { result ≢ Err StepFault.Failed → faults self.new ≡ faults self.old }
         ensures before { KeepsTold (before self.old) (before self.new) };
 
     /// Says that this clause follows by these hints. After `NoMemory` nothing more is said, after `Failed` nothing or
@@ -62,6 +64,7 @@ pub trait ProofSink {
 
         ensures cause { result ≡ Err StepFault.Failed → Rose (faults self.old) (faults self.new) }
         ensures later { faults self.old ≤ faults self.new }
+        ensures quiet { result ≢ Err StepFault.Failed → faults self.new ≡ faults self.old }
         ensures before { KeepsTold (before self.old) (before self.new) };
 }
 

@@ -1,6 +1,6 @@
 //! A sink that prints the lines to a sink of text.
 
-ghost use Rattle.std.specs.Prelude.{◌≡◌, ◌<◌, ◌≤◌, ◌+◌, ◌^◌, true, false, [], ◌∷◌, ◌++◌, length, Ok, Err, OnOk, OnErr, IfOk};
+ghost use Rattle.std.specs.Prelude.{◌≡◌, ◌≢◌, ◌<◌, ◌≤◌, ◌+◌, ◌^◌, true, false, [], ◌∷◌, ◌++◌, length, Ok, Err, OnOk, OnErr, IfOk};
 ghost use Rattle.probe_io.specs.Causes.{Rose, HasCause};
 ghost use Rattle.probe_io.specs.Written.{Appends, AppendsFront};
 ghost use Rattle.proof_sinks.specs.Calls.{KeepsTold};
@@ -96,6 +96,7 @@ impl<K: Sink + Drop> ProofSink for StepText<K> {
         ensures whole { result ≡ Err StepFault.NoMemory → self.new.whole ≡ true }
         ensures cause { result ≡ Err StepFault.Failed → Rose (K.faults self.old.sink) (K.faults self.new.sink) }
         ensures later { K.faults self.old.sink ≤ K.faults self.new.sink }
+        ensures quiet { result ≢ Err StepFault.Failed → K.faults self.new.sink ≡ K.faults self.old.sink }
         ensures before { KeepsTold (without_last self.old.sent (K.written self.old.sink))
             (without_last self.new.sent (K.written self.new.sink)) }
     {
@@ -128,6 +129,7 @@ impl<K: Sink + Drop> ProofSink for StepText<K> {
         ensures whole { result ≡ Err StepFault.NoMemory → self.new.whole ≡ true }
         ensures cause { result ≡ Err StepFault.Failed → Rose (K.faults self.old.sink) (K.faults self.new.sink) }
         ensures later { K.faults self.old.sink ≤ K.faults self.new.sink }
+        ensures quiet { result ≢ Err StepFault.Failed → K.faults self.new.sink ≡ K.faults self.old.sink }
         ensures before { KeepsTold (without_last self.old.sent (K.written self.old.sink))
             (without_last self.new.sent (K.written self.new.sink)) }
     {

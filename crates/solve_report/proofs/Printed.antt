@@ -6,7 +6,7 @@ use Rattle.probe_io.proofs.WrittenLemmas.{Appends-then, Appends-front, AppendsFr
 use Rattle.proof_sinks.specs.declared.lines.Said.{Said}
 use Rattle.proof_sinks.specs.Text.{line_text, text_of}
 use Rattle.proof_sinks.proofs.LineTexts.{text_more}
-use Rattle.solve_report.specs.Printing.{ArePrinted, StaysQuiet}
+use Rattle.solve_report.specs.Printing.{ArePrinted}
 use Rattle.probe_io.proofs.Texts.{Front-is, Whole-is}
 
 -- the text with one line more
@@ -43,11 +43,3 @@ whole_of false whole live = let both : ⊥ = cc in absurd both
 -- a printer that takes another line has printed all
 pub printed_live : {start now : Option (List ℕ)} {said : List Said} (kept whole : Bool) → (kept && whole) ≡ true → ArePrinted start now said whole → ArePrinted start now said true
 printed_live {start} {now} {said} kept whole live printed = subst (λ w. ArePrinted start now said w) (whole_of kept whole live) printed
-
--- while a printer takes lines, the count of faults is what it was
-pub quiet_live : {before now : ℕ} (kept whole : Bool) → (kept && whole) ≡ true → StaysQuiet before now whole → now ≡ before
-quiet_live kept whole live quiet = quiet.same (whole_of kept whole live)
-
--- nothing is said of the count where a line was torn
-pub torn : (before now : ℕ) → StaysQuiet before now false
-torn before now = record { same = λ whole. absurd cc }

@@ -13,24 +13,19 @@ pub record ArePrinted (start now : Option (List ℕ)) (said : List Said) (whole 
   pub text : whole ≡ true → Appends start now (text_of said)
   pub front : AppendsFront start now (text_of said)
 
--- while whole lines are written, a count of faults is what it was
-pub record StaysQuiet (before now : ℕ) (whole : Bool) : Type 0 where
-  pub same : whole ≡ true → now ≡ before
-
--- a printer: the name of the reference that it holds, the text and the count of faults that stood there when it was made,
--- the count there now, the lines, and whether another is taken
+-- a printer: the name of the reference that it holds, the text that stood there when it was made, the count of faults
+-- there, the lines, and whether another is taken
 pub record PrinterView : Type 0 where
   pub name : ℕ
   pub start : Option (List ℕ)
-  pub faults_before : ℕ
   pub faults : ℕ
   pub said : List Said
   pub live : Bool
 
--- which reference a printer holds, and the count and the text that stood there when it was made, as one list of numbers
-abbrev pub mark : ℕ → ℕ → Option (List ℕ) → List ℕ
-mark name faults None = name ∷ faults ∷ []
-mark name faults (Some text) = name ∷ faults ∷ 0 ∷ text
+-- which reference a printer holds, and the text that stood there when it was made, as one list of numbers
+abbrev pub mark : ℕ → Option (List ℕ) → List ℕ
+mark name None = name ∷ []
+mark name (Some text) = name ∷ 0 ∷ text
 
 -- the proof of a verdict was appended
 pub record WritesProof (formula : Clauses) (budget : ℕ) (verdict : Verdict) (old new : Option (List ℕ)) : Type 0 where

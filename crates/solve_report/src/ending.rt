@@ -23,7 +23,7 @@ pub enum ReportFault {
     /// A write failed: the count of faults of the sink of text rose. A front of the report was written.
     #[error("the report could not be written")]
     Write,
-    /// No memory was found. A front of the report was written, or nothing.
+    /// No memory was found, and no write failed. A front of the report was written, or nothing.
     #[error("out of memory")]
     NoMemory,
 }

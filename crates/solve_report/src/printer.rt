@@ -1,7 +1,7 @@
 //! A sink that prints the lines of a proof to a sink of text that it borrows.
 
 ghost use Rattle.std.specs.Prelude.{◌≡◌, true, [], Some};
-ghost use Rattle.solve_report.specs.Printing.{ArePrinted, StaysQuiet, mark};
+ghost use Rattle.solve_report.specs.Printing.{ArePrinted, mark};
 
 use clause_base::Lit;
 use probe_io::Sink;
@@ -11,8 +11,8 @@ use std::marker::Model;
 use std::snapshot::Snapshot;
 
 /// A printer of lines: `f` for a clause that is given, `d` for a derived one. It keeps the lines that were said. Contracts
-/// see which reference it holds, the text and the count of faults that stood there when it was made, the count there now,
-/// the lines, and whether another is taken.
+/// see which reference it holds, the text that stood there when it was made, the count of faults there, the lines, and
+/// whether another is taken.
 #[derive(Drop)]
 pub(crate) struct Printer<'a, K: Sink> {
     out: &'a mut K,
@@ -23,21 +23,19 @@ pub(crate) struct Printer<'a, K: Sink> {
 
 impl<'a, K: Sink> Model for Printer<'a, K> {
     ghost use Rattle.std.specs.Prelude.{◌&&◌};
-    ghost use Rattle.solve_report.specs.Printing.{PrinterView, ArePrinted, StaysQuiet};
+    ghost use Rattle.solve_report.specs.Printing.{PrinterView, ArePrinted};
 
     ghost Value = { PrinterView };
 
     ghost view = { λ s. record {
       name = s.out.ghost_name;
       start = K.written s.start.value;
-      faults_before = K.faults s.start.value;
       faults = K.faults s.out.now;
       said = s.list.said;
       live = s.list.live && s.is_whole;
     } };
 
-    ghost invariant = { λ s. ArePrinted (K.written s.start.value) (K.written s.out.now) s.list.said s.is_whole
-        × StaysQuiet (K.faults s.start.value) (K.faults s.out.now) s.is_whole };
+    ghost invariant = { λ s. ArePrinted (K.written s.start.value) (K.written s.out.now) s.list.said s.is_whole };
 }
 
 impl<'a, K: Sink> Printer<'a, K> {
@@ -45,7 +43,6 @@ impl<'a, K: Sink> Printer<'a, K> {
     pub(crate) fn new(alloc: Global, out: &'a mut K) -> Printer<'a, K>
         ensures same_reference { result.name ≡ out.entry.ghost_name }
         ensures start { result.start ≡ K.written out.old }
-        ensures before { result.faults_before ≡ K.faults out.old }
         ensures faults { result.faults ≡ K.faults out.old }
         ensures said { result.said ≡ [] }
         ensures live { result.live ≡ true }
@@ -64,21 +61,20 @@ impl<'a, K: Sink> Printer<'a, K> {
         ensures same_reference { result.ghost_name ≡ self.entry.name }
         ensures printed { ArePrinted self.entry.start (K.written result.now) self.entry.said self.entry.live }
         ensures faults { K.faults result.now ≡ self.entry.faults }
-        ensures quiet { StaysQuiet self.entry.faults_before (K.faults result.now) self.entry.live }
     {
         let Printer { out, .. } = self;
         out
     }
 }
 
-/// `before` tells which reference is held beside the count and the text that stood before the first line, so that the
-/// caller finds its own sink again.
+/// `before` tells which reference is held beside the text that stood before the first line, so that the caller finds its
+/// own sink again.
 impl<'a, K: Sink> ProofSink for Printer<'a, K> {
     ghost said = { λ s. s.said };
 
     ghost live = { λ s. s.live };
 
-    ghost before = { λ s. Some (mark s.name s.faults_before s.start) };
+    ghost before = { λ s. Some (mark s.name s.start) };
 
     ghost faults = { λ s. s.faults };
 

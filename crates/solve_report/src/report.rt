@@ -1,6 +1,6 @@
 //! A report, from its first line to the last.
 
-ghost use Rattle.std.specs.Prelude.{◌≡◌, ◌<◌, ◌≤◌, ◌^◌, Ok, Err, OnOk, OnErr, IfOk};
+ghost use Rattle.std.specs.Prelude.{◌≡◌, ◌≢◌, ◌<◌, ◌≤◌, ◌^◌, Ok, Err, OnOk, OnErr, IfOk};
 ghost use Rattle.probe_io.specs.Causes.{Rose};
 ghost use Rattle.solve_report.specs.Report.{WritesReport, WritesFront};
 ghost use Rattle.solve_report.specs.Printing.{WritesProof, WritesProofFront};
@@ -18,7 +18,7 @@ use std::alloc::Global;
 /// Searches for values that solve the formula, and writes the report of that search to `out`: the formula's clauses, each
 /// derived line as it is found, and the verdict. At most `budget` lines other than the empty one are derived; a search
 /// that wants more ends with `Undecided`. After `Write` a front of the report was written, and after `NoMemory` such a
-/// front or nothing.
+/// front or nothing, and no write failed.
 pub fn write<K: Sink>(
     alloc: Global,
     formula: &Formula,
@@ -30,7 +30,7 @@ pub fn write<K: Sink>(
     ensures front { OnErr result (WritesFront formula.now budget (K.written out.old) (K.written out.new)) }
     ensures decided { 3 ^ formula.now.vars ≤ budget → result ≡ Ok Ending.Undecided → ⊥ }
     ensures cause { result ≡ Err ReportFault.Write → Rose (K.faults out.old) (K.faults out.new) }
-    ensures quiet { OnOk result (K.faults out.new ≡ K.faults out.old) }
+    ensures quiet { result ≢ Err ReportFault.Write → K.faults out.new ≡ K.faults out.old }
     ensures later { K.faults out.old ≤ K.faults out.new }
 {
     let sorted = sorted_form(alloc, formula)?;
@@ -52,7 +52,7 @@ fn put_proof<K: Sink>(
     ensures front { OnErr result (WritesProofFront formula.now budget (K.written out.old) (K.written out.new)) }
     ensures decided { 3 ^ formula.now.vars ≤ budget → result ≡ Ok Verdict.Undecided → ⊥ }
     ensures cause { result ≡ Err ReportFault.Write → Rose (K.faults out.old) (K.faults out.new) }
-    ensures quiet { OnOk result (K.faults out.new ≡ K.faults out.old) }
+    ensures quiet { result ≢ Err ReportFault.Write → K.faults out.new ≡ K.faults out.old }
     ensures later { K.faults out.old ≤ K.faults out.new }
 {
     let mut printer = Printer::new(alloc, out);

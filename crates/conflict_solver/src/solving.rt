@@ -38,9 +38,9 @@ struct Solver {
 
 /// Finds values that solve the formula, or derives the empty clause from it. It says the formula's clauses to the sink,
 /// in order, and then each clause that it derives with its hints. At most `budget` of these aren't empty: a search
-/// that wants more ends with `Undecided`. It answers `Sink` only where the sink's count of faults rose, which
-/// no other answer raises, and `NoMemory` only where no memory was found, here or by the sink. After each of these some first clauses of the formula were
-/// said, or all of them and some derived lines.
+/// that wants more ends with `Undecided`. It answers `Sink` only where the sink's count of faults rose, which no other
+/// answer raises, and `NoMemory` only where no memory was found, here or by the sink. After each of these two some first
+/// clauses of the formula were said, or all of them and some derived lines.
 pub fn solve<P: ProofSink>(
     alloc: Global,
     formula: &Formula,

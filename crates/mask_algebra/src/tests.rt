@@ -66,8 +66,11 @@ fn masks(alloc: Global, lines: &str, flat: &Flat) -> Result<Masks, Fail> {
     Ok(evaluate(alloc, &map, flat)?)
 }
 
-fn strip(y0: i32, y1: i32, x0: i32, x1: i32) -> Strip {
-    Strip { y0, y1, x0, x1 }
+/// The edges of a strip: below, above, on the left and on the right.
+type Edges = (i32, i32, i32, i32);
+
+fn edges(strip: &Strip) -> Edges {
+    (strip.y0, strip.y1, strip.x0, strip.x1)
 }
 
 #[test]
@@ -80,31 +83,23 @@ fn evaluates_expressions(rt: HostRuntime) -> Result<(), Fail> {
         ("CCA", 2, 2, 4, 4),
     ];
     let flat = layout(rt.alloc(), &boxes)?;
-    let rows: [(&str, &[Strip]); 6] = [
-        (
-            "wire w CAA*CSN*!CPG",
-            &[strip(0, 4, 0, 4), strip(0, 4, 6, 8)],
-        ),
+    let rows: [(&str, &[Edges]); 6] = [
+        ("wire w CAA*CSN*!CPG", &[(0, 4, 0, 4), (0, 4, 6, 8)]),
         ("wire w CMF", &[]),
-        ("wire w CPG+!CMF*CPG", &[strip(-1, 5, 4, 6)]),
+        ("wire w CPG+!CMF*CPG", &[(-1, 5, 4, 6)]),
         (
             "wire w CPG+!CPG*CAA",
-            &[strip(-1, 0, 4, 6), strip(0, 4, 0, 10), strip(4, 5, 4, 6)],
+            &[(-1, 0, 4, 6), (0, 4, 0, 10), (4, 5, 4, 6)],
         ),
-        (
-            "wire w !(CAA+!CPG)",
-            &[strip(-1, 0, 4, 6), strip(4, 5, 4, 6)],
-        ),
-        (
-            "wire w CCA",
-            &[strip(0, 2, 0, 4), strip(2, 4, 0, 6), strip(4, 6, 2, 6)],
-        ),
+        ("wire w !(CAA+!CPG)", &[(-1, 0, 4, 6), (4, 5, 4, 6)]),
+        ("wire w CCA", &[(0, 2, 0, 4), (2, 4, 0, 6), (4, 6, 2, 6)]),
     ];
     for (line, strips) in rows {
         let masks = masks(rt.alloc(), line, &flat)?;
         assert_eq!(rt; masks.wires().len(), 1);
         for wire in masks.wires() {
-            assert!(rt; wire.strips() == strips, "{}", line);
+            let found: Vec<Edges> = wire.strips().iter().map(edges).collect(rt.alloc())?;
+            assert!(rt; found.as_slice() == strips, "{}", line);
         }
     }
     Ok(())

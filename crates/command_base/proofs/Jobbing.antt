@@ -1,0 +1,52 @@
+-- How a job ends, from how its input was judged and what was written.
+use Rattle.std.proofs.Common.{◌≡◌, ◌⊎◌, inl, inr, Result, Ok, Err, refl, subst}
+use Rattle.command_base.specs.declared.endings.Ending.{Ending}
+use Rattle.command_base.specs.declared.endings.Stop.{Stop}
+use Rattle.command_base.specs.declared.endings.Stop.TheVariants.{Refused, OpenFault, ReadFault, WriteFault, NoMemory}
+use Rattle.command_base.specs.Devices.{Files, ShelfState, SinkState, Desk, IsUntouched}
+use Rattle.command_base.specs.Stages.{Stage, IsGiven, IsJudged, JudgesAs}
+use Rattle.command_base.specs.Jobs.{Texts, job, IsSuchEnd, Ends, IsHalted, AreWritten, Writes}
+
+abbrev desk_of : ShelfState → SinkState → Desk
+desk_of shelf out = record { shelf = shelf; out = out }
+
+-- no call was made on it
+pub untouched : (s : SinkState) → IsUntouched s s
+untouched s = record { written = refl; faults = refl }
+
+stopped_so : {R A B : Type 0} (view : B → A) (stage : Stage R A) (texts : Texts A) (a b : ShelfState) (out : SinkState) (stop : Stop R)
+    → IsJudged view stage a b (Err stop) → IsSuchEnd (job stage texts) (desk_of a out) (desk_of b out) (Err stop)
+stopped_so view stage texts a b out (Refused refusal) judged = record { cause = judged.refuses; shelf = judged.shelf; out = untouched out }
+stopped_so view stage texts a b out (OpenFault which) judged = record { shelf = judged; out = untouched out }
+stopped_so view stage texts a b out (ReadFault which) judged = record { shelf = judged; out = untouched out }
+stopped_so view stage texts a b out WriteFault judged = absurd judged
+stopped_so view stage texts a b out NoMemory judged = record { out = inl (untouched out); shelf = judged }
+
+-- a job whose input gives no subject
+pub job_stops : {R A B : Type 0} {view : B → A} {stage : Stage R A} {texts : Texts A} {a b : ShelfState} {out : SinkState} {stop : Stop R}
+    → JudgesAs view stage a b (Err stop) → Ends (job stage texts) (desk_of a out) (desk_of b out) (Err stop)
+job_stops {view = view} {stage = stage} {texts = texts} {a = a} {b = b} {out = out} {stop = stop} judges =
+    record { how = stopped_so view stage texts a b out stop judges.judged }
+
+halted_so : {R A : Type 0} (stage : Stage R A) (texts : Texts A) (subject : A) (files : Files) (out out' : SinkState) → stage.gives files subject
+    → IsUntouched out out' ⊎ IsHalted (texts.halted subject) out out' → IsUntouched out out' ⊎ IsHalted ((job stage texts).halted files) out out'
+halted_so stage texts subject files out out' given (inl untouched) = inl untouched
+halted_so stage texts subject files out out' given (inr halted) =
+    inr (record { text = halted.text; so_far = record { value = subject; given = given; holds = halted.so_far }; out = halted.out })
+
+written_so : {R A B : Type 0} (view : B → A) (stage : Stage R A) (texts : Texts A) (a b : ShelfState) (out out' : SinkState) (x : B) (result : Result Ending (Stop R))
+    → IsGiven stage (view x) a b → AreWritten texts (view x) out out' result → IsSuchEnd (job stage texts) (desk_of a out) (desk_of b out') result
+written_so view stage texts a b out out' x (Ok ending) given written =
+    record { text = written.text; report = record { value = view x; given = given.gives; holds = written.whole }; out = written.out; shelf = given.shelf }
+written_so view stage texts a b out out' x (Err (Refused refusal)) given written = absurd written
+written_so view stage texts a b out out' x (Err (OpenFault which)) given written = absurd written
+written_so view stage texts a b out out' x (Err (ReadFault which)) given written = absurd written
+written_so view stage texts a b out out' x (Err WriteFault) given written =
+    record { text = written.text; begun = record { value = view x; given = given.gives; holds = written.begun }; out = written.out; shelf = given.shelf }
+written_so view stage texts a b out out' x (Err NoMemory) given written = record { out = halted_so stage texts (view x) a.files out out' given.gives written.out; shelf = given.shelf }
+
+-- a job that writes on the subject that its input gives
+pub job_writes : {R A B : Type 0} {view : B → A} {stage : Stage R A} {texts : Texts A} {a b : ShelfState} {out out' : SinkState} {x : B} {result : Result Ending (Stop R)}
+    → JudgesAs view stage a b (Ok x) → Writes texts (view x) out out' result → Ends (job stage texts) (desk_of a out) (desk_of b out') result
+job_writes {view = view} {stage = stage} {texts = texts} {a = a} {b = b} {out = out} {out' = out'} {x = x} {result = result} judges writes =
+    record { how = written_so view stage texts a b out out' x result judges.judged writes.how }

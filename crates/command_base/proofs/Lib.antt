@@ -1,0 +1,4 @@
+pub mod Judging
+pub mod Jobbing
+pub mod Answering
+pub mod Alike

@@ -1,0 +1,6 @@
+pub mod Devices
+pub mod Stages
+pub mod Jobs
+pub mod Answers
+pub mod Carrying
+pub mod Exact

@@ -9,7 +9,8 @@ use Rattle.command_base.specs.declared.endings.Stop.{Stop}
 use Rattle.command_base.specs.declared.endings.Stop.TheVariants.{Refused, OpenFault, ReadFault, WriteFault, NoMemory}
 use Rattle.command_base.specs.declared.endings.AnyStatus.{AnyStatus}
 use Rattle.command_base.specs.declared.endings.AnyStatus.TheVariants.{Done, DoneUndecided, DoneNo, Refused as IsRefusedFor, OpenFault as NotOpened, ReadFault as NotRead, WriteFault as NotWritten, NoMemory as OutOfMemory}
-use Rattle.command_base.specs.Devices.{SinkState, Desk, IsQuiet, IsUntouched, IsPut, IsCut}
+use Rattle.probe_io.specs.Devices.{SinkState, IsQuiet, IsUntouched, IsPut, IsCut}
+use Rattle.command_base.specs.Desks.{Desk}
 use Rattle.command_base.specs.Jobs.{Job, IsReported, IsSuchEnd, IsHalted}
 use Rattle.command_base.specs.Answers.{done_of, IsToldRefusal, IsToldAs, IsAnswer, IsInterrupted, RefusesWhere, IsInOrder, IsFaultless, IsComplete, ReportsWhere, TellsFaults}
 use Rattle.command_base.specs.Exact.{IsExact}

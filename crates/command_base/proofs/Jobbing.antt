@@ -3,7 +3,8 @@ use Rattle.std.proofs.Common.{◌≡◌, ◌⊎◌, inl, inr, Result, Ok, Err, r
 use Rattle.command_base.specs.declared.endings.Ending.{Ending}
 use Rattle.command_base.specs.declared.endings.Stop.{Stop}
 use Rattle.command_base.specs.declared.endings.Stop.TheVariants.{Refused, OpenFault, ReadFault, WriteFault, NoMemory}
-use Rattle.command_base.specs.Devices.{Files, ShelfState, SinkState, Desk, IsUntouched}
+use Rattle.probe_io.specs.Devices.{Files, ShelfState, SinkState, IsUntouched}
+use Rattle.command_base.specs.Desks.{Desk}
 use Rattle.command_base.specs.Stages.{Stage, IsGiven, IsJudged, JudgesAs}
 use Rattle.command_base.specs.Jobs.{Texts, job, IsSuchEnd, Ends, IsHalted, AreWritten, Writes}
 

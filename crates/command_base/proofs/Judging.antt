@@ -5,7 +5,7 @@ use Rattle.probe_io.specs.Files.{Lacks}
 use Rattle.command_base.specs.declared.endings.Which.{Which}
 use Rattle.command_base.specs.declared.endings.Stop.{Stop}
 use Rattle.command_base.specs.declared.endings.Stop.TheVariants.{Refused, OpenFault, ReadFault, WriteFault, NoMemory}
-use Rattle.command_base.specs.Devices.{Files, ShelfState, IsQuiet, IsShelfQuiet, IsUnopened, IsUnread}
+use Rattle.probe_io.specs.Devices.{Files, ShelfState, IsQuiet, IsShelfQuiet, IsUnopened, IsUnread}
 use Rattle.command_base.specs.Stages.{Stage, then, just, layer, HasNoFile, HasLostFile, IsGiven, IsTurnedDown, IsJudged, JudgesAs}
 use Rattle.command_base.specs.Carrying.{stop_for}
 

@@ -11,7 +11,8 @@ use Rattle.command_base.specs.declared.endings.Stop.{Stop}
 use Rattle.command_base.specs.declared.endings.Stop.TheVariants.{Refused, OpenFault, ReadFault, WriteFault, NoMemory}
 use Rattle.command_base.specs.declared.endings.AnyStatus.{AnyStatus}
 use Rattle.command_base.specs.declared.endings.AnyStatus.TheVariants.{Done, DoneUndecided, DoneNo, Refused as IsRefusedFor, OpenFault as NotOpened, ReadFault as NotRead, WriteFault as NotWritten, NoMemory as OutOfMemory}
-use Rattle.command_base.specs.Devices.{Files, ShelfState, SinkState, Desk, IsQuiet, IsShelfQuiet, IsUntouched, IsPut, IsCut}
+use Rattle.probe_io.specs.Devices.{Files, ShelfState, SinkState, IsQuiet, IsShelfQuiet, IsUntouched, IsPut, IsCut}
+use Rattle.command_base.specs.Desks.{Desk}
 use Rattle.command_base.specs.Jobs.{Job, Ends}
 
 -- ---- the lines of faults

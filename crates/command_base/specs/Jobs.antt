@@ -4,7 +4,8 @@ use Rattle.command_base.specs.declared.endings.Which.{Which}
 use Rattle.command_base.specs.declared.endings.Ending.{Ending}
 use Rattle.command_base.specs.declared.endings.Stop.{Stop}
 use Rattle.command_base.specs.declared.endings.Stop.TheVariants.{Refused, OpenFault, ReadFault, WriteFault, NoMemory}
-use Rattle.command_base.specs.Devices.{Files, SinkState, Desk, IsShelfQuiet, IsUntouched, IsPut, IsCut}
+use Rattle.probe_io.specs.Devices.{Files, SinkState, IsShelfQuiet, IsUntouched, IsPut, IsCut}
+use Rattle.command_base.specs.Desks.{Desk}
 use Rattle.command_base.specs.Stages.{Stage, Through, HasNoFile, HasLostFile}
 
 -- The texts that may be written on a subject: whole ones with their endings, those of which a prefix may stand where a

@@ -1,4 +1,4 @@
-pub mod Devices
+pub mod Desks
 pub mod Stages
 pub mod Jobs
 pub mod Answers

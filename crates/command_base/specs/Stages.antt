@@ -4,7 +4,7 @@ use Rattle.probe_io.specs.Files.{IsFile, IsFileOver}
 use Rattle.command_base.specs.declared.endings.Which.{Which}
 use Rattle.command_base.specs.declared.endings.Stop.{Stop}
 use Rattle.command_base.specs.declared.endings.Stop.TheVariants.{Refused, OpenFault, ReadFault, WriteFault, NoMemory}
-use Rattle.command_base.specs.Devices.{Files, ShelfState, IsShelfQuiet, IsUnopened, IsUnread}
+use Rattle.probe_io.specs.Devices.{Files, ShelfState, IsShelfQuiet, IsUnopened, IsUnread}
 
 -- A stage, on the files where they are told: which value it gives, which refusal it has for them, and which files of
 -- which names it reads.

@@ -1,7 +1,7 @@
 //! From the name of a file to its bytes.
 
 ghost use Rattle.std.specs.Prelude.{◌<◌, ◌^◌};
-ghost use Rattle.command_base.specs.Devices.{shelf_at};
+ghost use Rattle.probe_io.specs.Devices.{shelf_at};
 ghost use Rattle.command_base.specs.Stages.{file, JudgesAs};
 
 use crate::endings::{Stop, Which};

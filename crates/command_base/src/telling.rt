@@ -1,25 +1,19 @@
 //! From the end of a call to its status, with its line of diagnostics.
 
-ghost use Rattle.std.specs.Prelude.{◌≡◌, ℕ, List};
-ghost use Rattle.command_base.specs.Devices.{Puts, sink_at};
+ghost use Rattle.std.specs.Prelude.{◌≡◌, ℕ};
+ghost use Rattle.probe_io.specs.Devices.{Puts, sink_at};
 ghost use Rattle.command_base.specs.Answers.{Tells, exit_of, open_fault_line, read_fault_line, write_fault_line, no_memory_line};
 
 use crate::endings::{AnyStatus, Ending, Stop, Stream, Which};
-use probe_io::{Failed, Piece, Sink, put_all, put_pieces};
+use probe_io::{Failed, Line, Piece, Sink, put_all, put_pieces};
 
 /// A refusal that can be told: it has a line of diagnostics and an exit status.
-pub trait Told {
-    ghost line: { Self → List ℕ };
-
+pub trait Told: Line {
     ghost exit: { Self → ℕ };
 
     /// The exit status of the program.
     fn exit(&self) -> u8
         ensures { result ≡ exit self.now };
-
-    /// Writes the line, with its end. After `Failed` a prefix of it was written.
-    fn put_line<K: Sink>(&self, diag: &mut K) -> Result<(), Failed>
-        ensures { Puts (line self.now) (sink_at K.Sink diag.old) (sink_at K.Sink diag.new) result };
 }
 
 impl<R: Told> AnyStatus<R> {
@@ -41,11 +35,11 @@ impl<R: Told> AnyStatus<R> {
 /// The status for this end of a call. Its line is written to `diag`: none for a whole report, and where that of a refusal
 /// cannot be written whole the status is `WriteFault(Diag)`.
 pub fn tell<R: Told + Copy, E: Sink>(end: Result<Ending, Stop<R>>, diag: &mut E) -> AnyStatus<R>
-    ensures { Tells R.line end (sink_at E.Sink diag.old) (sink_at E.Sink diag.new) result }
+    ensures { Tells R.text end (sink_at E.Sink diag.old) (sink_at E.Sink diag.new) result }
 {
     match end {
         Ok(ending) => ending.status(),
-        Err(Stop::Refused(refusal)) => match refusal.put_line(diag) {
+        Err(Stop::Refused(refusal)) => match refusal.put(diag) {
             Ok(()) => AnyStatus::Refused(refusal),
             Err(_) => AnyStatus::WriteFault(Stream::Diag),
         },

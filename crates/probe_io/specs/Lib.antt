@@ -4,3 +4,4 @@ pub mod Written
 pub mod Text
 pub mod Plan
 pub mod Memory
+pub mod Devices

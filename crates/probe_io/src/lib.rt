@@ -10,6 +10,7 @@
 #![tactic(auto)]
 
 mod folder;
+mod lines;
 mod memory;
 mod names;
 mod outside;
@@ -20,6 +21,7 @@ mod real;
 mod sure;
 mod writing;
 
+pub use lines::{Line, LineRoom};
 pub use memory::{MemShelf, MemSink};
 pub use names::Name;
 pub use outside::{Failed, Shelf, Sink};

@@ -1,5 +1,5 @@
 // Devices in memory that never fail.
-ghost use Rattle.std.specs.Prelude.{◌≡◌, ℕ, ◌+◌, ◌≤◌, ◌<◌, ◌++◌, [], List, true, Ok, Some, None, map, min, length, take, IfOk, IfSome, OnOk, OnErr};
+ghost use Rattle.std.specs.Prelude.{◌≡◌, ℕ, ◌+◌, ◌≤◌, ◌<◌, ◌++◌, [], List, true, Ok, Some, None, map, min, length, take, IfOk, IfSome, IfNone, OnOk, OnErr};
 ghost use Rattle.std.specs.Io.KnownBytes.{ReadConsumes};
 ghost use Rattle.probe_io.specs.Files.{file_of, left_in, moved_on};
 ghost use Rattle.probe_io.specs.Memory.{told_file};
@@ -126,6 +126,26 @@ impl SureSink {
         ensures told { IfSome self.now.written (λ told. result.now ≡ told) }
     {
         self.bytes.as_slice()
+    }
+
+    /// All that was written, or `None` where that is not told.
+    pub fn told(&self) -> Option<&[u8]>
+        ensures some { IfSome result (λ bytes. self.now.written ≡ Some bytes.now) }
+        ensures none { IfNone result (self.now.written ≡ None) }
+    {
+        if self.is_over {
+            None
+        } else {
+            Some(self.bytes.as_slice())
+        }
+    }
+
+    /// Forgets all that was written. The room stays.
+    pub fn clear(&mut self)
+        ensures { self.new ≡ record { written = Some []; held = []; room = self.old.room } }
+    {
+        self.bytes.clear();
+        self.is_over = false;
     }
 }
 

@@ -1,4 +1,4 @@
--- What the devices of a call show, before it and after it.
+-- What the devices of a call show before it and after it, and what a call does that writes a text.
 use Rattle.std.specs.Prelude.{◌≡◌, ℕ, ◌≤◌, ◌⊎◌, Bool, true, List, Option, Result, OnOk, OnErr}
 use Rattle.probe_io.specs.Causes.{Rose}
 use Rattle.probe_io.specs.Files.{File, Lacks}
@@ -74,13 +74,3 @@ pub record IsCut (text : List ℕ) (before after : SinkState) : Type 0 where
 pub record Puts {T E : Type 0} (text : List ℕ) (before after : SinkState) (result : Result T E) : Type 0 where
   pub whole : OnOk result (IsPut text before after)
   pub cut : OnErr result (IsCut text before after)
-
--- ---- both devices of a report
-
--- the shelf that is read from, and the sink of the report
-pub record Desk : Type 0 where
-  pub shelf : ShelfState
-  pub out : SinkState
-
-abbrev pub desk : {S T : Type 0} → ShelfGhosts S → SinkGhosts T → S → T → Desk
-desk shelf sink s t = record { shelf = shelf_at shelf s; out = sink_at sink t }

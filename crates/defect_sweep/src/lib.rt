@@ -29,6 +29,3 @@ pub use pairs::{CountList, Pair, PairCount};
 pub use refusal::SweepRefusal;
 pub use sides::{SideWeight, are_sides};
 pub use sweep::count_regions;
-
-#[cfg(test)]
-mod tests;

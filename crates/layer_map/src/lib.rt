@@ -19,8 +19,6 @@ mod names;
 mod reading;
 mod refusal;
 mod rows;
-#[cfg(test)]
-mod tests;
 mod words;
 
 pub use expr::Expr;

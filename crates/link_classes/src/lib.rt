@@ -14,6 +14,3 @@ mod partition;
 
 pub use laws::{one_numbering, tables_number_classes};
 pub use partition::{Classes, classes_of};
-
-#[cfg(test)]
-mod tests;

@@ -26,6 +26,3 @@ pub use laws::{within_by_cells, within_by_rects, within_by_regions};
 pub use masks::Masks;
 pub use region::Region;
 pub use strips::Strip;
-
-#[cfg(test)]
-mod tests;

@@ -19,6 +19,3 @@ mod shapes;
 pub use names::{Label, Short, is_name};
 pub use places::{Place, Turn, one_place};
 pub use shapes::{Point, RANGE, Rect, Shape};
-
-#[cfg(test)]
-mod tests;

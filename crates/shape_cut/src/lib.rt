@@ -15,6 +15,3 @@ mod wires;
 
 pub use cutting::cut;
 pub use laws::one_reach;
-
-#[cfg(test)]
-mod tests;

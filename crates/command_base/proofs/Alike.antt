@@ -67,14 +67,21 @@ spelled_alike = record {
   apart' = λ a r given there. there.1 a given;
 }
 
+-- layers that have one carried fault between them, and none where the other accepts
+pub layers_alike : {R L A : Type 0} {carry : L → Option R} {accepts accepts' : A → Type 0} {faults faults' : L → Type 0} {files : List File}
+    → ((l m : L) (r q : R) → carry l ≡ Some r → carry m ≡ Some q → faults l → faults' m → l ≡ m)
+    → ((a : A) (l : L) (r : R) → carry l ≡ Some r → accepts a → faults' l → ⊥) → ((a : A) (l : L) (r : R) → carry l ≡ Some r → accepts' a → faults l → ⊥)
+    → AreAlike (layer carry accepts faults) (layer carry accepts' faults') files
+layers_alike {carry = carry} one apart apart' = record {
+  one = λ r q here there. one_some (sym here.holds ∙ ap carry (one here.value there.value r q here.holds there.holds here.given there.given) ∙ there.holds);
+  apart = λ a r given there. apart a there.value r there.holds given there.given;
+  apart' = λ a r given there. apart' a there.value r there.holds given there.given;
+}
+
 -- a layer that has one fault at most, and none where it accepts
 pub layer_alike : {R L A : Type 0} {carry : L → Option R} {accepts : A → Type 0} {faults : L → Type 0} {files : List File}
     → ((l m : L) → faults l → faults m → l ≡ m) → ((a : A) (l : L) → accepts a → faults l → ⊥) → AreAlike (layer carry accepts faults) (layer carry accepts faults) files
-layer_alike {carry = carry} one apart = record {
-  one = λ r q here there. one_some (sym here.holds ∙ ap carry (one here.value there.value here.given there.given) ∙ there.holds);
-  apart = λ a r given there. apart a there.value given there.given;
-  apart' = λ a r given there. apart a there.value given there.given;
-}
+layer_alike one apart = layers_alike (λ l m r q is is'. one l m) (λ a l r is. apart a l) (λ a l r is. apart a l)
 
 -- ---- files
 

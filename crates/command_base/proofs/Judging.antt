@@ -5,22 +5,12 @@ use Rattle.probe_io.specs.Files.{Lacks}
 use Rattle.command_base.specs.declared.endings.Which.{Which}
 use Rattle.command_base.specs.declared.endings.Stop.{Stop}
 use Rattle.command_base.specs.declared.endings.Stop.TheVariants.{Refused, OpenFault, ReadFault, WriteFault, NoMemory}
+use Rattle.probe_io.proofs.Putting.{quiet_twice, rose_later}
 use Rattle.probe_io.specs.Devices.{Files, ShelfState, IsQuiet, IsShelfQuiet, IsUnopened, IsUnread}
-use Rattle.command_base.specs.Stages.{Stage, then, just, layer, HasNoFile, HasLostFile, IsGiven, IsTurnedDown, IsJudged, JudgesAs}
+use Rattle.command_base.specs.Stages.{Stage, then, just, refused, layer, spelled, HasNoFile, HasLostFile, IsGiven, IsTurnedDown, IsJudged, JudgesAs}
 use Rattle.command_base.specs.Carrying.{stop_for}
 
--- a count that stayed twice stayed
-pub quiet_twice : {strict strict' : Bool} {a b c : ℕ} → strict' ≡ strict → IsQuiet strict a b → IsQuiet strict' b c → IsQuiet strict a c
-quiet_twice same first second = record {
-  later = omega (arith, first.later, second.later);
-  quiet = λ is. second.quiet (same ∙ is) ∙ first.quiet is;
-}
-
--- a count that rose after it stayed rose in both calls together
-pub rose_later : {a b c : ℕ} → a ≤ b → Rose b c → Rose a c
-rose_later later (inl more) = inl (omega (arith, later, more))
-rose_later later (inr last) = inr last
-
+-- a shelf that stayed twice stayed
 pub quiet_shelf_twice : {a b c : ShelfState} → b.strict ≡ a.strict → IsShelfQuiet a b → IsShelfQuiet b c → IsShelfQuiet a c
 quiet_shelf_twice same first second = record { starts = quiet_twice same first.starts second.starts; reads = quiet_twice same first.reads second.reads }
 
@@ -127,3 +117,21 @@ layer_stops {view = view} {carry = carry} {accepts = accepts} {faults = faults} 
   strict = refl;
   files = refl;
 }
+
+-- a word that spells a value
+pub spelled_gives : {R A B : Type 0} {view : B → A} {spells : A → Type 0} {bad : R} {shelf : ShelfState} {x : B}
+    → spells (view x) → JudgesAs view (spelled spells bad) shelf shelf (Ok x)
+spelled_gives {shelf = shelf} spells = record { judged = record { gives = spells; shelf = quiet_shelf_still shelf }; strict = refl; files = refl }
+
+-- a word that spells none
+pub spelled_stops : {R A B : Type 0} {view : B → A} {spells : A → Type 0} {bad : R} {shelf : ShelfState}
+    → ((a : A) → spells a → ⊥) → JudgesAs view (spelled spells bad) shelf shelf (Err (Refused bad))
+spelled_stops {shelf = shelf} none = record { judged = record { refuses = (refl, none); shelf = quiet_shelf_still shelf }; strict = refl; files = refl }
+
+-- no memory, before any call
+pub memory_stops : {R A B : Type 0} {view : B → A} {stage : Stage R A} {shelf : ShelfState} → JudgesAs view stage shelf shelf (Err NoMemory)
+memory_stops {shelf = shelf} = record { judged = quiet_shelf_still shelf; strict = refl; files = refl }
+
+-- a refusal for another number of words
+pub refused_stops : {R A B : Type 0} {view : B → A} {refusal : R} {shelf : ShelfState} → JudgesAs view (refused {A = A} refusal) shelf shelf (Err (Refused refusal))
+refused_stops {shelf = shelf} = record { judged = record { refuses = refl; shelf = quiet_shelf_still shelf }; strict = refl; files = refl }

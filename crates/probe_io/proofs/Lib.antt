@@ -3,3 +3,4 @@ pub mod WrittenLemmas
 pub mod Texts
 mod FolderLemmas
 mod Worked
+pub mod Putting

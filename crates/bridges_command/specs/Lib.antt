@@ -1,0 +1,4 @@
+pub mod Report
+pub mod Command
+pub mod Views
+pub mod Reports

@@ -1,0 +1,4 @@
+pub mod Sides
+pub mod Words
+pub mod Stages
+pub mod Views

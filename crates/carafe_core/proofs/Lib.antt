@@ -1,9 +1,1 @@
-pub mod WordLemmas
-pub mod SideLemmas
-pub mod CauseFacts
-pub mod NeverTooLong
-pub mod LineLemmas
-pub mod Exactness
-pub mod OneReport
-pub mod Reported
-mod Worked
+pub mod CommandsExact

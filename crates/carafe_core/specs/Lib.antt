@@ -1,6 +1,1 @@
-pub mod Sides
-pub mod Settings
-pub mod Report
-pub mod Causes
-pub mod Answers
-pub mod Subject
+pub mod Commands

@@ -1,30 +1,24 @@
 //! The top call.
 
-ghost use Rattle.std.specs.Prelude.{◌≡◌, ℕ, ◌≤◌};
-ghost use Rattle.carafe_core.specs.Answers.{fault_count, text, shown, IsOutcome, IsAnswer, RefusesWhere, ReportsWhere, TellsShelfFaults, TellsCutOff, TellsFaults};
+ghost use Rattle.probe_io.specs.Devices.{sink_at};
+ghost use Rattle.command_base.specs.Desks.{desk};
+ghost use Rattle.command_base.specs.Jobs.{Ends};
+ghost use Rattle.command_base.specs.Answers.{IsAnswer, RefusesWhere, ReportsWhere, TellsFaults};
+ghost use Rattle.command_refusals.specs.Lines.{refusal_line};
+ghost use Rattle.carafe_core.specs.Commands.{job_named, job_of};
 
-use crate::bridges::report_bridges;
-use crate::settings::{Command, read_words};
-use crate::solve::report_search;
-use crate::status::{Status, Stream};
+use bridges_command::bridges;
+use command_base::{Ending, Stop, tell};
+use command_refusals::{Refusal, Status, WordRefusal};
 use probe_io::{Name, Shelf, Sink};
+use solve_command::solve;
 use std::alloc::Global;
 
-/// Reads what the words name and writes the report that they ask for.
-fn report<H: Shelf, K: Sink>(alloc: Global, words: &[Name], shelf: &mut H, out: &mut K) -> Status
-    ensures outcome { IsOutcome words.now (shown (H.files shelf.old) (H.start_faults shelf.old) (H.start_faults shelf.new)
-        (H.read_faults shelf.old) (H.read_faults shelf.new)) (text (K.written out.old) (K.written out.new))
-        (fault_count (K.faults out.old) (K.faults out.new)) result }
-    ensures told { TellsShelfFaults (shown (H.files shelf.old) (H.start_faults shelf.old) (H.start_faults shelf.new)
-        (H.read_faults shelf.old) (H.read_faults shelf.new)) result }
-    ensures cut_off { TellsCutOff (fault_count (K.faults out.old) (K.faults out.new)) result }
-{
-    match read_words(alloc, words) {
-        Ok(Command::Bridges(settings)) => report_bridges(alloc, &settings, shelf, out),
-        Ok(Command::Solve(settings)) => report_search(alloc, &settings, shelf, out),
-        Err(status) => status,
-    }
-}
+/// The most words of a call.
+const MOST_WORDS: usize = 4096;
+
+/// The stop of a call whose words are no command.
+const USAGE: Stop<Refusal> = Stop::Refused(Refusal::Words(WordRefusal::Usage));
 
 /// Does what the words ask for and says how that ended.
 pub fn carafe<H: Shelf, K: Sink, E: Sink>(
@@ -34,22 +28,18 @@ pub fn carafe<H: Shelf, K: Sink, E: Sink>(
     out: &mut K,
     diag: &mut E,
 ) -> Status
-    ensures answer { IsAnswer words.now (shown (H.files shelf.old) (H.start_faults shelf.old) (H.start_faults shelf.new)
-        (H.read_faults shelf.old) (H.read_faults shelf.new)) (text (K.written out.old) (K.written out.new))
-        (text (E.written diag.old) (E.written diag.new)) (fault_count (K.faults out.old) (K.faults out.new))
-        (fault_count (E.faults diag.old) (E.faults diag.new)) result }
-    ensures refused { RefusesWhere words.now (H.files shelf.old) result }
-    ensures complete { ReportsWhere words.now (shown (H.files shelf.old) (H.start_faults shelf.old) (H.start_faults shelf.new)
-        (H.read_faults shelf.old) (H.read_faults shelf.new)) (fault_count (K.faults out.old) (K.faults out.new))
-        (fault_count (E.faults diag.old) (E.faults diag.new)) result }
-    ensures faults { TellsFaults (shown (H.files shelf.old) (H.start_faults shelf.old) (H.start_faults shelf.new)
-        (H.read_faults shelf.old) (H.read_faults shelf.new)) (fault_count (K.faults out.old) (K.faults out.new))
-        (fault_count (E.faults diag.old) (E.faults diag.new)) result }
+    ensures answer { IsAnswer refusal_line (job_of words.now) (desk H.Shelf K.Sink shelf.old out.old) (desk H.Shelf K.Sink shelf.new out.new)
+        (sink_at E.Sink diag.old) (sink_at E.Sink diag.new) result }
+    ensures refused { RefusesWhere (job_of words.now) (H.files shelf.old) result }
+    ensures complete { ReportsWhere (job_of words.now) (desk H.Shelf K.Sink shelf.old out.old) (desk H.Shelf K.Sink shelf.new out.new)
+        (sink_at E.Sink diag.old) (sink_at E.Sink diag.new) result }
+    ensures faults { TellsFaults (desk H.Shelf K.Sink shelf.old out.old) (desk H.Shelf K.Sink shelf.new out.new)
+        (sink_at E.Sink diag.old) (sink_at E.Sink diag.new) result }
 {
     answered(alloc, words, shelf, out, diag)
 }
 
-/// Does what the words ask for, and tells why where there is no report.
+/// Does what the words ask for, and tells how that ended.
 fn answered<H: Shelf, K: Sink, E: Sink>(
     alloc: Global,
     words: &[Name],
@@ -57,24 +47,43 @@ fn answered<H: Shelf, K: Sink, E: Sink>(
     out: &mut K,
     diag: &mut E,
 ) -> Status
-    ensures answer { IsAnswer words.now (shown (H.files shelf.old) (H.start_faults shelf.old) (H.start_faults shelf.new)
-        (H.read_faults shelf.old) (H.read_faults shelf.new)) (text (K.written out.old) (K.written out.new))
-        (text (E.written diag.old) (E.written diag.new)) (fault_count (K.faults out.old) (K.faults out.new))
-        (fault_count (E.faults diag.old) (E.faults diag.new)) result }
-    ensures faults { TellsFaults (shown (H.files shelf.old) (H.start_faults shelf.old) (H.start_faults shelf.new)
-        (H.read_faults shelf.old) (H.read_faults shelf.new)) (fault_count (K.faults out.old) (K.faults out.new))
-        (fault_count (E.faults diag.old) (E.faults diag.new)) result }
+    ensures { IsAnswer refusal_line (job_of words.now) (desk H.Shelf K.Sink shelf.old out.old) (desk H.Shelf K.Sink shelf.new out.new)
+        (sink_at E.Sink diag.old) (sink_at E.Sink diag.new) result }
 {
-    let status = report(alloc, words, shelf, out);
-    match status {
-        Status::Done | Status::DoneUndecided => status,
-        Status::Refused(_) => match status.put_line(diag) {
-            Ok(()) => status,
-            Err(_) => Status::WriteFault(Stream::Diag),
-        },
-        _ => {
-            let _ = status.put_line(diag);
-            status
-        }
+    tell(run(alloc, words, shelf, out), diag)
+}
+
+/// Runs the command that the first word names.
+fn run<H: Shelf, K: Sink>(
+    alloc: Global,
+    words: &[Name],
+    shelf: &mut H,
+    out: &mut K,
+) -> Result<Ending, Stop<Refusal>>
+    ensures { Ends (job_of words.now) (desk H.Shelf K.Sink shelf.old out.old) (desk H.Shelf K.Sink shelf.new out.new) result }
+{
+    if words.len() > MOST_WORDS {
+        return Err(USAGE);
+    }
+    match words.split_first() {
+        Some((name, rest)) => run_named(alloc, name, rest, shelf, out),
+        None => Err(USAGE),
+    }
+}
+
+/// Runs the command of this name on the words after it.
+fn run_named<H: Shelf, K: Sink>(
+    alloc: Global,
+    name: &Name,
+    words: &[Name],
+    shelf: &mut H,
+    out: &mut K,
+) -> Result<Ending, Stop<Refusal>>
+    ensures { Ends (job_named name.now words.now) (desk H.Shelf K.Sink shelf.old out.old) (desk H.Shelf K.Sink shelf.new out.new) result }
+{
+    match name.as_str() {
+        "bridges" => bridges(alloc, words, shelf, out),
+        "solve" => solve(alloc, words, shelf, out),
+        _ => Err(USAGE),
     }
 }

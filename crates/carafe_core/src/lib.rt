@@ -4,8 +4,9 @@
 //! `Done` or `DoneUndecided` only with a whole report written, `Refused` only where the cause of that refusal is the
 //! first that stands in words and files, and a fault only where that device failed in the call; and it refuses, or
 //! reports, wherever it should, unless a device fails or no memory is found. Where a call on a device failed, the status
-//! tells so. `specs/Answers.antt` says all this status by status. Words and files have one refusal at most, none where
-//! they have a report, and `bridges` one report at most: the law `one_answer`.
+//! tells so. Which command words ask for stands in `specs/Commands.antt`; what each status says of a command is said once,
+//! for all of them, in `command_base`. Words and files have one refusal at most, and none where they have a report: the law
+//! `one_answer`.
 //!
 //! There are two commands. `bridges MAP CIF SIDES` lists, for any layer map and any layout, the pairs of nets that a
 //! square defect can short, with exact counts, the likeliest first. `solve FORMULA BUDGET` searches for values that
@@ -14,21 +15,12 @@
 #![tactic(auto)]
 
 mod answer;
-mod bridges;
-mod files;
 mod laws;
-mod numbers;
-mod report;
-mod settings;
-mod sides;
-mod solve;
-mod status;
-mod subject;
 
 pub use answer::carafe;
-pub use laws::{one_answer, one_list_of_sides};
-pub use settings::WordRefusal;
-pub use status::{Refusal, Status, Stream, Which};
+pub use command_base::{Stream, Which};
+pub use command_refusals::{Refusal, Status, WordRefusal};
+pub use laws::one_answer;
 
 #[cfg(test)]
 mod tests;

@@ -1,11 +1,11 @@
 -- Which stages have one refusal, and none beside a value, where the files are told.
-use Rattle.std.proofs.Common.{◌≡◌, ◌⊎◌, inl, inr, ℕ, ◌<◌, ◌≤◌, List, length, Option, Some, None, refl, sym, ◌∙◌, ap, subst, arith}
+use Rattle.std.proofs.Common.{◌≡◌, ◌⊎◌, inl, inr, ℕ, Bool, true, false, ◌<◌, ◌≤◌, List, length, Option, Some, None, refl, sym, ◌∙◌, ap, subst, arith}
 use Rattle.std.specs.Prelude.{unwrap_or, IsSomeAnd}
 use Rattle.probe_io.specs.Files.{File, IsFile, IsFileOver, file_of}
 use Rattle.command_base.specs.declared.endings.Which.{Which}
 use Rattle.command_base.specs.declared.endings.Ending.{Ending}
 use Rattle.command_base.specs.Stages.{Stage, Through, then, just, refused, file, layer, spelled}
-use Rattle.command_base.specs.Jobs.{Texts, job}
+use Rattle.command_base.specs.Jobs.{Texts, Job, job, choose, refusing}
 use Rattle.command_base.specs.Exact.{AreAlike, IsExact}
 
 -- what stands in two equal options
@@ -58,6 +58,14 @@ just_alike = record { one = λ r q here there. absurd here; apart = λ a r given
 
 pub refused_alike : {R A B : Type 0} {r : R} {files : List File} → AreAlike (refused {A = A} r) (refused {A = B} r) files
 refused_alike = record { one = λ r q here there. here ∙ sym there; apart = λ a r given there. given; apart' = λ b r given there. given }
+
+-- one of two exact jobs
+pub chosen_exact : {R : Type 0} (which : Bool) (a b : Job R) (files : List File) → IsExact a files → IsExact b files → IsExact (choose which a b) files
+chosen_exact true a b files exact other = exact
+chosen_exact false a b files other exact = exact
+
+pub refusing_exact : {R : Type 0} {refusal : R} {files : List File} → IsExact (refusing refusal) files
+refusing_exact = exact_job refused_alike
 
 -- a word that spells one value at most
 pub spelled_alike : {R A : Type 0} {spells : A → Type 0} {bad : R} {files : List File} → AreAlike (spelled spells bad) (spelled spells bad) files

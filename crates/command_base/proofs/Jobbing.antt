@@ -6,7 +6,8 @@ use Rattle.command_base.specs.declared.endings.Stop.TheVariants.{Refused, OpenFa
 use Rattle.probe_io.specs.Devices.{Files, ShelfState, SinkState, IsUntouched}
 use Rattle.command_base.specs.Desks.{Desk}
 use Rattle.command_base.specs.Stages.{Stage, IsGiven, IsJudged, JudgesAs}
-use Rattle.command_base.specs.Jobs.{Texts, job, IsSuchEnd, Ends, IsHalted, AreWritten, Writes}
+use Rattle.command_base.proofs.Judging.{quiet_shelf_still}
+use Rattle.command_base.specs.Jobs.{Texts, job, refusing, IsSuchEnd, Ends, IsHalted, AreWritten, Writes}
 
 abbrev desk_of : ShelfState → SinkState → Desk
 desk_of shelf out = record { shelf = shelf; out = out }
@@ -51,3 +52,7 @@ pub job_writes : {R A B : Type 0} {view : B → A} {stage : Stage R A} {texts : 
     → JudgesAs view stage a b (Ok x) → Writes texts (view x) out out' result → Ends (job stage texts) (desk_of a out) (desk_of b out') result
 job_writes {view = view} {stage = stage} {texts = texts} {a = a} {b = b} {out = out} {out' = out'} {x = x} {result = result} judges writes =
     record { how = written_so view stage texts a b out out' x result judges.judged writes.how }
+
+-- a job that refuses whatever files there are
+pub refusing_stops : {R : Type 0} {refusal : R} {shelf : ShelfState} {out : SinkState} → Ends (refusing refusal) (desk_of shelf out) (desk_of shelf out) (Err (Refused refusal))
+refusing_stops {shelf = shelf} {out = out} = record { how = record { cause = refl; shelf = quiet_shelf_still shelf; out = untouched out } }

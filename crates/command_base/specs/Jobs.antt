@@ -1,12 +1,13 @@
 -- A command as one value: the stages in which its input is judged, and the texts that it may write.
-use Rattle.std.specs.Prelude.{◌≡◌, ℕ, ◌⊎◌, List, Option, Some, Result, Ok, Err}
+use Rattle.std.specs.Prelude.{◌≡◌, ℕ, ◌⊎◌, Bool, true, false, List, [], Option, Some, Result, Ok, Err}
 use Rattle.command_base.specs.declared.endings.Which.{Which}
 use Rattle.command_base.specs.declared.endings.Ending.{Ending}
+use Rattle.command_base.specs.declared.endings.Ending.TheVariants.{Whole}
 use Rattle.command_base.specs.declared.endings.Stop.{Stop}
 use Rattle.command_base.specs.declared.endings.Stop.TheVariants.{Refused, OpenFault, ReadFault, WriteFault, NoMemory}
 use Rattle.probe_io.specs.Devices.{Files, SinkState, IsShelfQuiet, IsUntouched, IsPut, IsCut}
 use Rattle.command_base.specs.Desks.{Desk}
-use Rattle.command_base.specs.Stages.{Stage, Through, HasNoFile, HasLostFile}
+use Rattle.command_base.specs.Stages.{Stage, Through, refused, HasNoFile, HasLostFile}
 
 -- The texts that may be written on a subject: whole ones with their endings, those of which a prefix may stand where a
 -- write failed, and those that may stand where memory ended in mid-text.
@@ -41,6 +42,15 @@ job stage texts = record {
   begun = λ files text. Through (stage.gives files) (λ s. texts.begun s text);
   halted = λ files text. Through (stage.gives files) (λ s. texts.halted s text);
 }
+
+-- one of two jobs
+abbrev pub choose : {R : Type 0} → Bool → Job R → Job R → Job R
+choose true chosen other = chosen
+choose false chosen other = other
+
+-- the job that refuses whatever files there are
+abbrev pub refusing : {R : Type 0} → R → Job R
+refusing refusal = job (refused {A = Unit {0}} refusal) (fixed (λ subject. Whole) (λ subject. []))
 
 -- ---- how a job ends
 

@@ -1,6 +1,6 @@
 //! Numbers that words spell.
 
-ghost use Rattle.std.specs.Prelude.{◌≡◌, ℕ, ◌≤◌, IfSome, IfNone};
+ghost use Rattle.std.specs.Prelude.{◌≡◌, ℕ, ◌≤◌, IfOk, IfSome, IfNone};
 ghost use Rattle.std.specs.Fmt.{decimal};
 ghost use Rattle.probe_io.specs.Devices.{ShelfState};
 ghost use Rattle.command_base.specs.Stages.{Judges};
@@ -16,7 +16,8 @@ const MAX_BUDGET: u32 = 1_000_000;
 
 /// The budget that the word BUDGET spells.
 pub fn read_budget(word: &Name) -> Result<u32, Stop<Refusal>>
-    ensures { (shelf : ShelfState) → Judges (budget_stage word.now) shelf shelf result }
+    ensures judges { (shelf : ShelfState) → Judges (budget_stage word.now) shelf shelf result }
+    ensures some { IfOk result (λ budget. 1 ≤ budget) }
 {
     match read_number(word.as_str(), MAX_BUDGET) {
         Some(budget) => Ok(budget),

@@ -4,6 +4,7 @@ ghost use Rattle.std.specs.Prelude.{◌≡◌, ◌==◌, ℕ, ◌≤◌, List, A
 ghost use Rattle.std.specs.Fmt.{decimal};
 ghost use Rattle.std.specs.List.{slice_split, AllZip};
 ghost use Rattle.defect_sweep.specs.declared.sides.SideWeight.{SideWeight};
+ghost use Rattle.defect_sweep.specs.Sides.{AreSides};
 ghost use Rattle.probe_io.specs.Devices.{ShelfState};
 ghost use Rattle.command_base.specs.Stages.{JudgesAs};
 ghost use Rattle.command_inputs.specs.Stages.{sides_stage};
@@ -25,7 +26,8 @@ const MAX_WEIGHT: u32 = 30;
 
 /// The sides that the word SIDES spells.
 pub fn read_sides(alloc: Global, word: &Name) -> Result<Vec<SideWeight>, Stop<Refusal>>
-    ensures { (shelf : ShelfState) → JudgesAs (λ v. v.items) (sides_stage word.now) shelf shelf result }
+    ensures judges { (shelf : ShelfState) → JudgesAs (λ v. v.items) (sides_stage word.now) shelf shelf result }
+    ensures are { IfOk result (λ sides. AreSides sides.items) }
 {
     match sides_of(alloc, word.as_str()) {
         Ok(Some(sides)) => Ok(sides),

@@ -1,3 +1,4 @@
 pub mod OneOrder
 pub mod Ranks
 pub mod Worked
+pub mod SideTextLemmas

@@ -18,15 +18,19 @@ not_risen : Rose 4 4 → ⊥
 not_risen (inl more) = omega (arith, more)
 not_risen (inr last) = omega (arith, last)
 
-raised : HasCause {T = ℕ} {E = ℕ} 3 4 (Err 0)
-raised = record { later = omega arith; failed = risen; quiet = tt }
+raised : HasCause {T = ℕ} {E = ℕ} true 3 4 (Err 0)
+raised = record { later = omega arith; failed = risen; quiet = λ strict. tt }
 
 -- an error with no count raised has no cause, and a success raises none
-no_cause : HasCause {T = ℕ} {E = ℕ} 4 4 (Err 0) → ⊥
+no_cause : HasCause {T = ℕ} {E = ℕ} true 4 4 (Err 0) → ⊥
 no_cause cause = not_risen cause.failed
 
-not_quiet : HasCause {T = ℕ} {E = ℕ} 3 4 (Ok 0) → ⊥
-not_quiet cause = omega (arith, cause.quiet)
+not_quiet : HasCause {T = ℕ} {E = ℕ} true 3 4 (Ok 0) → ⊥
+not_quiet cause = omega (arith, cause.quiet refl)
+
+-- a device that is not strict may count a failure, mend it and succeed
+mended : HasCause {T = ℕ} {E = ℕ} false 3 4 (Ok 0)
+mended = record { later = omega arith; failed = tt; quiet = λ strict. grind (arith, strict) }
 
 one_more : counted 3 ≡ 4
 one_more = refl

@@ -1,5 +1,5 @@
 // Devices in memory that fail at chosen calls.
-ghost use Rattle.std.specs.Prelude.{◌≡◌, ◌≢◌, ℕ, ◌<◌, ◌≤◌, ◌⊎◌, ◌++◌, [], List, Some, None, Ok, map, min, length, take, IsTrue, IfOk, OnOk, OnErr};
+ghost use Rattle.std.specs.Prelude.{◌≡◌, ◌≢◌, ℕ, ◌<◌, ◌≤◌, ◌⊎◌, ◌++◌, [], List, true, Some, None, Ok, map, min, length, take, IsTrue, IfOk, OnOk, OnErr};
 ghost use Rattle.probe_io.specs.Causes.{Rose, HasCause, counted};
 ghost use Rattle.std.specs.Io.KnownBytes.{ReadConsumes};
 ghost use Rattle.probe_io.specs.Files.{file_of, left_in, moved_on};
@@ -57,6 +57,8 @@ impl MemShelf {
 }
 
 impl Shelf for MemShelf {
+    ghost strict = { true };
+
     ghost files = { λ s. Some s.files };
 
     ghost at = { λ s. s.at };
@@ -108,7 +110,7 @@ impl Shelf for MemShelf {
         ensures failing { IsTrue (is_failing self.old.plan) → self.old.at ≢ None → OnOk result ⊥ }
         ensures idle { self.old.at ≡ None → result ≡ Ok 0 }
         ensures planned { OnErr result (IsTrue (is_failing self.old.plan)) }
-        ensures cause { HasCause self.old.read_faults self.new.read_faults result }
+        ensures cause { HasCause true self.old.read_faults self.new.read_faults result }
         ensures once { OnErr result (self.new.read_faults ≡ counted self.old.read_faults) }
 
         ensures counted { self.new.plan ≡ after_call self.old.plan }
@@ -184,6 +186,10 @@ impl MemSink {
 }
 
 impl Sink for MemSink {
+    ghost strict = { true };
+
+    ghost lender = { λ _. [] };
+
     ghost written = { λ s. Some s.written };
 
     ghost faults = { λ s. s.faults };
@@ -199,7 +205,7 @@ impl Sink for MemSink {
 
         ensures failing { IsTrue (is_failing self.old.plan) → 0 < length piece.now → OnOk result ⊥ }
         ensures empty { length piece.now ≡ 0 → OnErr result ⊥ }
-        ensures cause { HasCause self.old.faults self.new.faults result }
+        ensures cause { HasCause true self.old.faults self.new.faults result }
         ensures once { OnErr result (self.new.faults ≡ counted self.old.faults) }
 
         ensures counted { self.new.plan ≡ after_call self.old.plan }

@@ -1,5 +1,5 @@
 // The two traits that a program reads and writes through, and the one error that they give.
-ghost use Rattle.std.specs.Prelude.{◌≡◌, ℕ, ◌<◌, ◌≤◌, ◌⊎◌, List, length, take, Option, None, Some, Ok, IfSome, IfOk, OnOk, OnErr};
+ghost use Rattle.std.specs.Prelude.{◌≡◌, ℕ, ◌<◌, ◌≤◌, ◌⊎◌, ◌∷◌, List, length, take, Bool, true, Option, None, Some, Ok, IfSome, IfOk, OnOk, OnErr};
 ghost use Rattle.std.specs.Io.KnownBytes.{ReadConsumes};
 ghost use Rattle.probe_io.specs.Causes.{Rose, HasCause};
 ghost use Rattle.probe_io.specs.Files.{File, Place, Lacks, left_at, moved_on};
@@ -13,9 +13,12 @@ pub struct Failed;
 /// Named files, of which one at a time is started and read.
 ///
 /// `files` are the files where the shelf tells them; they never change. `at` is the started file and
-/// the place in it. `start_faults` and `read_faults` count failed calls: they never fall, and a call
-/// that succeeds leaves both as they were.
+/// the place in it. `start_faults` and `read_faults` count failed calls and never fall. `strict` tells
+/// whether the shelf passes every failure on: a call of a strict shelf that succeeds leaves both counts
+/// as they were, and another shelf may count a failure, mend it and succeed.
 pub trait Shelf {
+    ghost strict: { Bool };
+
     ghost files: { Self → Option (List File) };
 
     ghost at: { Self → Option Place };
@@ -35,7 +38,7 @@ pub trait Shelf {
         ensures absent_quiet { Lacks (files self.old) name.now → start_faults self.new ≡ start_faults self.old }
 
         ensures later { start_faults self.old ≤ start_faults self.new }
-        ensures quiet { OnOk result (start_faults self.new ≡ start_faults self.old) }
+        ensures quiet { strict ≡ true → OnOk result (start_faults self.new ≡ start_faults self.old) }
         ensures reads_kept { read_faults self.new ≡ read_faults self.old }
         ensures same { files self.new ≡ files self.old };
 
@@ -50,7 +53,7 @@ pub trait Shelf {
         ensures stays { OnErr result (at self.new ≡ at self.old) }
         ensures idle { IfSome (files self.old) (λ _. at self.old ≡ None → result ≡ Ok 0) }
 
-        ensures cause { HasCause (read_faults self.old) (read_faults self.new) result }
+        ensures cause { HasCause strict (read_faults self.old) (read_faults self.new) result }
         ensures starts_kept { start_faults self.new ≡ start_faults self.old }
         ensures same { files self.new ≡ files self.old };
 
@@ -64,9 +67,16 @@ pub trait Shelf {
 
 /// What takes bytes.
 ///
-/// `written` is all that was written, where the sink tells it. `faults` counts failed calls: it never
-/// falls, and a call that succeeds leaves it as it was.
+/// `written` is all that was written, where the sink tells it. `faults` counts failed calls and never
+/// falls. `strict` tells whether the sink passes every failure on: a call of a strict sink that succeeds
+/// leaves the count as it was, and another sink may count a failure, mend it and succeed. `lender` names
+/// the references that the sink is reached through, so that what was written through a borrowed sink is
+/// known of the sink that was lent; no call changes it.
 pub trait Sink {
+    ghost strict: { Bool };
+
+    ghost lender: { Self → List ℕ };
+
     ghost written: { Self → Option (List ℕ) };
 
     ghost faults: { Self → ℕ };
@@ -80,11 +90,16 @@ pub trait Sink {
         ensures taken { IfOk result (λ n. Appends (written self.old) (written self.new) (take n piece.now)) }
         ensures stays { OnErr result (written self.new ≡ written self.old) }
 
-        ensures cause { HasCause (faults self.old) (faults self.new) result };
+        ensures cause { HasCause strict (faults self.old) (faults self.new) result }
+        ensures lender { lender self.new ≡ lender self.old };
 }
 
 /// A borrowed sink is that sink.
 impl<K: Sink> Sink for &mut K {
+    ghost strict = { K.strict };
+
+    ghost lender = { λ s. s.ghost_name ∷ K.lender s.now };
+
     ghost written = { λ s. K.written s.now };
 
     ghost faults = { λ s. K.faults s.now };

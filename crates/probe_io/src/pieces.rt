@@ -1,5 +1,5 @@
 // Lines of text from their pieces.
-ghost use Rattle.std.specs.Prelude.{OnOk, OnErr};
+ghost use Rattle.std.specs.Prelude.{◌≡◌, OnOk, OnErr};
 ghost use Rattle.probe_io.specs.Causes.{HasCause};
 ghost use Rattle.probe_io.specs.Text.{piece_text, pieces_text};
 ghost use Rattle.probe_io.specs.Written.{Appends, AppendsFront};
@@ -24,7 +24,8 @@ pub enum Piece<'a> {
 pub fn put_pieces<K: Sink>(sink: &mut K, pieces: &[Piece]) -> Result<(), Failed>
     ensures ok { OnOk result (Appends (K.written sink.old) (K.written sink.new) (pieces_text pieces.now)) }
     ensures front { OnErr result (AppendsFront (K.written sink.old) (K.written sink.new) (pieces_text pieces.now)) }
-    ensures cause { HasCause (K.faults sink.old) (K.faults sink.new) result }
+    ensures cause { HasCause K.strict (K.faults sink.old) (K.faults sink.new) result }
+    ensures lender { K.lender sink.new ≡ K.lender sink.old }
 {
     for piece in pieces {
         put_piece(sink, piece)?;
@@ -36,7 +37,8 @@ pub fn put_pieces<K: Sink>(sink: &mut K, pieces: &[Piece]) -> Result<(), Failed>
 fn put_piece<K: Sink>(sink: &mut K, piece: &Piece) -> Result<(), Failed>
     ensures ok { OnOk result (Appends (K.written sink.old) (K.written sink.new) (piece_text piece.now)) }
     ensures front { OnErr result (AppendsFront (K.written sink.old) (K.written sink.new) (piece_text piece.now)) }
-    ensures cause { HasCause (K.faults sink.old) (K.faults sink.new) result }
+    ensures cause { HasCause K.strict (K.faults sink.old) (K.faults sink.new) result }
+    ensures lender { K.lender sink.new ≡ K.lender sink.old }
 {
     match piece {
         Piece::Text(text) => put_all(sink, text),

@@ -1,5 +1,5 @@
 // Whole files from a shelf.
-ghost use Rattle.std.specs.Prelude.{◌≡◌, ◌≢◌, ◌<◌, ◌≤◌, ◌⊎◌, None, length, IfOk, IfSome, OnOk, IsErrOf, ⊤};
+ghost use Rattle.std.specs.Prelude.{◌≡◌, ◌≢◌, ◌<◌, ◌≤◌, ◌⊎◌, true, None, length, IfOk, IfSome, OnOk, IsErrOf, ⊤};
 ghost use Rattle.probe_io.specs.Causes.{Rose};
 ghost use Rattle.probe_io.specs.Files.{IsFile, Lacks, IsFileOver, HoldsOver, left_at};
 
@@ -27,9 +27,9 @@ const CHUNK: usize = 8192;
 ///
 /// `StartFailed` comes only where starting the file raised `start_faults`, or where the shelf tells
 /// its files and has none of this name; there it always comes, and raises no count. `ReadFailed`
-/// comes only where a read raised `read_faults`. No other answer raises either. Where the shelf tells
-/// its files, a file of over `limit` bytes is never given, and `TooLong` comes for no other. Want of
-/// memory may come instead of any of these once the file is started.
+/// comes only where a read raised `read_faults`. Neither count falls, and of a strict shelf no other
+/// answer raises either. Where the shelf tells its files, a file of over `limit` bytes is never given,
+/// and `TooLong` comes for no other. `NoMemory` may come instead of any of these once the file is started.
 pub fn read_all<H: Shelf>(
     alloc: Global,
     shelf: &mut H,
@@ -50,8 +50,8 @@ pub fn read_all<H: Shelf>(
     ensures closed { H.at shelf.new ≡ None }
     ensures later_starts { H.start_faults shelf.old ≤ H.start_faults shelf.new }
     ensures later_reads { H.read_faults shelf.old ≤ H.read_faults shelf.new }
-    ensures quiet_starts { result ≢ Err ReadAllFault.StartFailed → H.start_faults shelf.new ≡ H.start_faults shelf.old }
-    ensures quiet_reads { result ≢ Err ReadAllFault.ReadFailed → H.read_faults shelf.new ≡ H.read_faults shelf.old }
+    ensures quiet_starts { H.strict ≡ true → result ≢ Err ReadAllFault.StartFailed → H.start_faults shelf.new ≡ H.start_faults shelf.old }
+    ensures quiet_reads { H.strict ≡ true → result ≢ Err ReadAllFault.ReadFailed → H.read_faults shelf.new ≡ H.read_faults shelf.old }
     ensures same { H.files shelf.new ≡ H.files shelf.old }
 {
     if shelf.start(name).is_err() {
@@ -74,7 +74,7 @@ fn read_on<H: Shelf>(alloc: Global, shelf: &mut H, limit: usize) -> Result<Vec<u
 
     ensures starts_kept { H.start_faults shelf.new ≡ H.start_faults shelf.old }
     ensures later { H.read_faults shelf.old ≤ H.read_faults shelf.new }
-    ensures quiet { result ≢ Err ReadAllFault.ReadFailed → H.read_faults shelf.new ≡ H.read_faults shelf.old }
+    ensures quiet { H.strict ≡ true → result ≢ Err ReadAllFault.ReadFailed → H.read_faults shelf.new ≡ H.read_faults shelf.old }
     ensures same { H.files shelf.new ≡ H.files shelf.old }
 {
     let mut bytes = Vec::new(alloc);

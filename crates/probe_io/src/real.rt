@@ -1,5 +1,5 @@
 // The devices of the system. Nothing is known of what the system gives or takes: they tell no content.
-ghost use Rattle.std.specs.Prelude.{◌≡◌, ◌<◌, ◌≤◌, None, Ok, length, IfSome, IsSomeAnd, IfOk, OnOk, OnErr};
+ghost use Rattle.std.specs.Prelude.{◌≡◌, ◌<◌, ◌≤◌, [], true, None, Ok, length, IfSome, IsSomeAnd, IfOk, OnOk, OnErr};
 ghost use Rattle.std.specs.Option.{IsSome};
 ghost use Rattle.std.specs.Io.KnownBytes.{ReadConsumes, WriteAppends};
 ghost use Rattle.probe_io.specs.Causes.{Rose, HasCause, counted};
@@ -47,6 +47,8 @@ impl<R: Files> fmt::Debug for FileShelf<'_, R> {
 }
 
 impl<'a, R: Files> Shelf for FileShelf<'a, R> {
+    ghost strict = { true };
+
     ghost files = { λ _. None };
 
     ghost at = { λ _. None };
@@ -86,7 +88,7 @@ impl<'a, R: Files> Shelf for FileShelf<'a, R> {
         ensures given { IfSome self.old.file (λ before. IsSomeAnd self.new.file (λ now.
             ReadConsumes (R.File.remaining before) (R.File.remaining now) result buf.new)) }
         ensures idle { self.old.file ≡ None → result ≡ Ok 0 }
-        ensures cause { HasCause self.old.read_faults self.new.read_faults result }
+        ensures cause { HasCause true self.old.read_faults self.new.read_faults result }
         ensures once { OnErr result (self.new.read_faults ≡ counted self.old.read_faults) }
         ensures starts_kept { self.new.start_faults ≡ self.old.start_faults }
     {
@@ -144,6 +146,10 @@ impl<W: Write + Drop> StreamSink<W> {
 }
 
 impl<W: Write + Drop> Sink for StreamSink<W> {
+    ghost strict = { true };
+
+    ghost lender = { λ _. [] };
+
     ghost written = { λ _. None };
 
     ghost faults = { λ s. s.faults };
@@ -155,7 +161,7 @@ impl<W: Write + Drop> Sink for StreamSink<W> {
         ensures most { IfOk result (λ n. n ≤ length piece.now) }
         ensures some { IfOk result (λ n. 0 < length piece.now → 0 < n) }
         ensures empty { length piece.now ≡ 0 → OnErr result ⊥ }
-        ensures cause { HasCause self.old.faults self.new.faults result }
+        ensures cause { HasCause true self.old.faults self.new.faults result }
         ensures once { OnErr result (self.new.faults ≡ counted self.old.faults) }
     {
         if piece.is_empty() {

@@ -1,5 +1,5 @@
 // Devices in memory that never fail.
-ghost use Rattle.std.specs.Prelude.{◌≡◌, ℕ, ◌+◌, ◌≤◌, ◌<◌, ◌++◌, [], List, Ok, Some, None, map, min, length, take, IfOk, IfSome, OnOk, OnErr};
+ghost use Rattle.std.specs.Prelude.{◌≡◌, ℕ, ◌+◌, ◌≤◌, ◌<◌, ◌++◌, [], List, true, Ok, Some, None, map, min, length, take, IfOk, IfSome, OnOk, OnErr};
 ghost use Rattle.std.specs.Io.KnownBytes.{ReadConsumes};
 ghost use Rattle.probe_io.specs.Files.{file_of, left_in, moved_on};
 ghost use Rattle.probe_io.specs.Memory.{told_file};
@@ -38,6 +38,8 @@ impl SureShelf {
 }
 
 impl Shelf for SureShelf {
+    ghost strict = { true };
+
     ghost files = { λ s. Some s.files };
 
     ghost at = { λ s. s.at };
@@ -128,6 +130,10 @@ impl SureSink {
 }
 
 impl Sink for SureSink {
+    ghost strict = { true };
+
+    ghost lender = { λ _. [] };
+
     ghost written = { λ s. s.written };
 
     ghost faults = { λ _. 0 };

@@ -14,7 +14,7 @@ use std::alloc::Global;
 pub fn put_clause<K: Sink>(sink: &mut K, clause: &[Lit]) -> Result<(), Failed>
     ensures ok { OnOk result (Appends (K.written sink.old) (K.written sink.new) (clause_text clause.now)) }
     ensures front { OnErr result (AppendsFront (K.written sink.old) (K.written sink.new) (clause_text clause.now)) }
-    ensures cause { HasCause (K.faults sink.old) (K.faults sink.new) result }
+    ensures cause { HasCause K.strict (K.faults sink.old) (K.faults sink.new) result }
 {
     for lit in clause {
         put_literal(sink, *lit)?;
@@ -27,7 +27,7 @@ pub fn put_clause<K: Sink>(sink: &mut K, clause: &[Lit]) -> Result<(), Failed>
 fn put_literal<K: Sink>(sink: &mut K, lit: Lit) -> Result<(), Failed>
     ensures ok { OnOk result (Appends (K.written sink.old) (K.written sink.new) (literal_text lit)) }
     ensures front { OnErr result (AppendsFront (K.written sink.old) (K.written sink.new) (literal_text lit)) }
-    ensures cause { HasCause (K.faults sink.old) (K.faults sink.new) result }
+    ensures cause { HasCause K.strict (K.faults sink.old) (K.faults sink.new) result }
 {
     put_pieces(
         sink,
@@ -39,7 +39,7 @@ fn put_literal<K: Sink>(sink: &mut K, lit: Lit) -> Result<(), Failed>
 pub fn put_given<K: Sink>(sink: &mut K, clause: &[Lit]) -> Result<(), Failed>
     ensures ok { OnOk result (Appends (K.written sink.old) (K.written sink.new) (given_text clause.now)) }
     ensures front { OnErr result (AppendsFront (K.written sink.old) (K.written sink.new) (given_text clause.now)) }
-    ensures cause { HasCause (K.faults sink.old) (K.faults sink.new) result }
+    ensures cause { HasCause K.strict (K.faults sink.old) (K.faults sink.new) result }
 {
     put_all(sink, b"f ")?;
     put_clause(sink, clause)?;
@@ -56,7 +56,7 @@ pub fn put_derived<K: Sink>(
 ) -> Result<(), Failed>
     ensures ok { OnOk result (Appends (K.written sink.old) (K.written sink.new) (derived_text number clause.now hints.now)) }
     ensures front { OnErr result (AppendsFront (K.written sink.old) (K.written sink.new) (derived_text number clause.now hints.now)) }
-    ensures cause { HasCause (K.faults sink.old) (K.faults sink.new) result }
+    ensures cause { HasCause K.strict (K.faults sink.old) (K.faults sink.new) result }
 {
     put_pieces(
         sink,
@@ -72,7 +72,7 @@ pub fn put_derived<K: Sink>(
 fn put_hints<K: Sink>(sink: &mut K, hints: &[u64]) -> Result<(), Failed>
     ensures ok { OnOk result (Appends (K.written sink.old) (K.written sink.new) (hints_text hints.now)) }
     ensures front { OnErr result (AppendsFront (K.written sink.old) (K.written sink.new) (hints_text hints.now)) }
-    ensures cause { HasCause (K.faults sink.old) (K.faults sink.new) result }
+    ensures cause { HasCause K.strict (K.faults sink.old) (K.faults sink.new) result }
 {
     for hint in hints {
         put_hint(sink, *hint)?;
@@ -85,7 +85,7 @@ fn put_hints<K: Sink>(sink: &mut K, hints: &[u64]) -> Result<(), Failed>
 fn put_hint<K: Sink>(sink: &mut K, hint: u64) -> Result<(), Failed>
     ensures ok { OnOk result (Appends (K.written sink.old) (K.written sink.new) (hint_text hint)) }
     ensures front { OnErr result (AppendsFront (K.written sink.old) (K.written sink.new) (hint_text hint)) }
-    ensures cause { HasCause (K.faults sink.old) (K.faults sink.new) result }
+    ensures cause { HasCause K.strict (K.faults sink.old) (K.faults sink.new) result }
 {
     put_pieces(sink, &[Piece::Number(hint), Piece::Text(b" ")])
 }

@@ -1,4 +1,4 @@
-use Rattle.std.proofs.Common.{◌≡◌, take}
+use Rattle.std.proofs.Common.{◌≡◌, ◌≤◌, true, take}
 use Rattle.probe_io.specs.Text.{pieces_text}
 use Rattle.probe_io.specs.Written.{Appends}
 use Rattle.probe_io.proofs.pieces.put_pieces.Given as goal
@@ -7,5 +7,7 @@ use Rattle.probe_io.proofs.pieces.put_pieces.Given as goal
 abbrev pub invariant-loop-piece : goal.invariant-loop-piece
 invariant-loop-piece g l = record {
   written : Appends (g.K.Sink.written l.fn.sink) (g.K.Sink.written l.sink) (pieces_text (take l.piece-index l.pieces));
-  quiet : g.K.Sink.faults l.sink ≡ g.K.Sink.faults l.fn.sink;
+  later : g.K.Sink.faults l.fn.sink ≤ g.K.Sink.faults l.sink;
+  quiet : g.K.Sink.strict ≡ true → g.K.Sink.faults l.sink ≡ g.K.Sink.faults l.fn.sink;
+  lender : g.K.Sink.lender l.sink ≡ g.K.Sink.lender l.fn.sink;
 }

@@ -1,4 +1,4 @@
-use Rattle.std.proofs.Common.{rules, arith}
+use Rattle.std.proofs.Common.{◌∙◌, arith}
 use Rattle.probe_io.proofs.CauseLemmas.{on_err}
 use Rattle.probe_io.proofs.WrittenLemmas.{Appends-slice, AppendsFront-slice}
 use Rattle.probe_io.proofs.writing.put_all.Goals as goal
@@ -10,5 +10,7 @@ pub loop-done-preserved : goal.loop-done-preserved
 loop-done-preserved g c = record {
   in_range = grind (arith, c.in_ok-done.ensures.most);
   written = Appends-slice _ _ _ c.loop-done.invariant.written c.in_ok-done.ensures.taken;
-  quiet = search rules;
+  later = omega (arith, c.loop-done.invariant.later, c.in_ok-done.ensures.cause.later);
+  quiet = λ strict. c.in_ok-done.ensures.cause.quiet strict ∙ c.loop-done.invariant.quiet strict;
+  lender = c.in_ok-done.ensures.lender ∙ c.loop-done.invariant.lender;
 }

@@ -1,4 +1,4 @@
-use Rattle.std.proofs.Common.{◌≡◌, take, flat_map}
+use Rattle.std.proofs.Common.{◌≡◌, ◌≤◌, true, take, flat_map}
 use Rattle.probe_io.specs.Written.{Appends}
 use Rattle.proof_sinks.specs.Text.{literal_text}
 use Rattle.proof_sinks.proofs.printing.put_clause.Given as goal
@@ -7,5 +7,6 @@ use Rattle.proof_sinks.proofs.printing.put_clause.Given as goal
 abbrev pub invariant-loop-lit : goal.invariant-loop-lit
 invariant-loop-lit g l = record {
   written : Appends (g.K.Sink.written l.fn.sink) (g.K.Sink.written l.sink) (flat_map literal_text (take l.lit-index l.clause));
-  quiet : g.K.Sink.faults l.sink ≡ g.K.Sink.faults l.fn.sink;
+  later : g.K.Sink.faults l.fn.sink ≤ g.K.Sink.faults l.sink;
+  quiet : g.K.Sink.strict ≡ true → g.K.Sink.faults l.sink ≡ g.K.Sink.faults l.fn.sink;
 }

@@ -12,7 +12,7 @@ start-tells g c = record {
   absent = λ none. absurd none;
   absent_quiet = λ none. absurd none;
   later = c.ensures.later;
-  quiet = c.ensures.quiet;
+  quiet = λ strict. c.ensures.quiet;
   reads_kept = c.ensures.reads_kept;
   same = refl;
 }

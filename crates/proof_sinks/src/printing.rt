@@ -3,7 +3,8 @@
 ghost use Rattle.std.specs.Prelude.{◌≡◌, OnOk, OnErr, IfOk};
 ghost use Rattle.probe_io.specs.Causes.{HasCause};
 ghost use Rattle.probe_io.specs.Written.{Appends, AppendsFront};
-ghost use Rattle.proof_sinks.specs.Text.{literal_text, clause_text, hint_text, hints_text, given_text, derived_text};
+ghost use Rattle.clause_base.specs.ClauseText.{literal_text, clause_text, given_text};
+ghost use Rattle.refutation_check.specs.LineText.{hint_text, hints_text, derived_text};
 
 use clause_base::Lit;
 use probe_io::{Failed, MemSink, Piece, Sink, put_all, put_pieces};
@@ -23,7 +24,7 @@ pub fn put_clause<K: Sink>(sink: &mut K, clause: &[Lit]) -> Result<(), Failed>
 }
 
 /// Writes a literal and a space.
-#[tactic(auto, unfolding(crate::specs::Text::literal_text))]
+#[tactic(auto, unfolding(clause_base::specs::ClauseText::literal_text))]
 fn put_literal<K: Sink>(sink: &mut K, lit: Lit) -> Result<(), Failed>
     ensures ok { OnOk result (Appends (K.written sink.old) (K.written sink.new) (literal_text lit)) }
     ensures front { OnErr result (AppendsFront (K.written sink.old) (K.written sink.new) (literal_text lit)) }
@@ -81,7 +82,7 @@ fn put_hints<K: Sink>(sink: &mut K, hints: &[u64]) -> Result<(), Failed>
 }
 
 /// Writes a hint and a space.
-#[tactic(auto, unfolding(crate::specs::Text::hint_text))]
+#[tactic(auto, unfolding(refutation_check::specs::LineText::hint_text))]
 fn put_hint<K: Sink>(sink: &mut K, hint: u64) -> Result<(), Failed>
     ensures ok { OnOk result (Appends (K.written sink.old) (K.written sink.new) (hint_text hint)) }
     ensures front { OnErr result (AppendsFront (K.written sink.old) (K.written sink.new) (hint_text hint)) }

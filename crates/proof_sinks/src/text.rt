@@ -3,9 +3,11 @@
 ghost use Rattle.std.specs.Prelude.{◌≡◌, ◌≢◌, ◌<◌, ◌≤◌, ◌+◌, ◌^◌, true, false, [], ◌∷◌, ◌++◌, length, Ok, Err, OnOk, OnErr, IfOk};
 ghost use Rattle.probe_io.specs.Causes.{Rose, HasCause};
 ghost use Rattle.probe_io.specs.Written.{Appends, AppendsFront};
+ghost use Rattle.clause_base.specs.ClauseText.{given_text};
+ghost use Rattle.refutation_check.specs.LineText.{derived_text};
 ghost use Rattle.proof_sinks.specs.Calls.{KeepsTold};
 ghost use Rattle.proof_sinks.specs.Sending.{SendsFront};
-ghost use Rattle.proof_sinks.specs.Text.{given_text, derived_text, text_of, without_last};
+ghost use Rattle.proof_sinks.specs.Text.{text_of, without_last};
 ghost use Rattle.proof_sinks.specs.declared.lines.Said.{Said};
 
 use crate::lines::Said;

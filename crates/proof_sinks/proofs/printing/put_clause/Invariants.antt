@@ -1,6 +1,6 @@
 use Rattle.std.proofs.Common.{◌≡◌, ◌≤◌, true, take, flat_map}
 use Rattle.probe_io.specs.Written.{Appends}
-use Rattle.proof_sinks.specs.Text.{literal_text}
+use Rattle.clause_base.specs.ClauseText.{literal_text}
 use Rattle.proof_sinks.proofs.printing.put_clause.Given as goal
 
 -- the texts of the literals so far are written

@@ -1,6 +1,6 @@
 use Rattle.std.proofs.Common.{◌≡◌, ◌≤◌, true, take, flat_map}
 use Rattle.probe_io.specs.Written.{Appends}
-use Rattle.proof_sinks.specs.Text.{hint_text}
+use Rattle.refutation_check.specs.LineText.{hint_text}
 use Rattle.proof_sinks.proofs.printing.put_hints.Given as goal
 
 -- the texts of the hints so far are written

@@ -2,6 +2,7 @@
 use Rattle.std.specs.Prelude.{◌≡◌, ◌≢◌, ℕ, ◌+◌, ◌*◌, ◌-◌, ◌≤◌, ℤ, Option, Result, Err, IfSome, IfNone, List, [], ◌++◌, length, take, All}
 use Rattle.probe_io.specs.Causes.{Rose}
 use Rattle.clause_base.specs.Formulas.{Clauses}
+use Rattle.refutation_check.specs.Deriving.{AreDerived, line_clauses}
 use Rattle.proof_sinks.specs.Calls.{KeepsTold}
 use Rattle.proof_sinks.specs.declared.lines.Said.{Said}
 use Rattle.proof_sinks.specs.Lines.{given_lines, proof_of}
@@ -9,7 +10,6 @@ use Rattle.search_trail.specs.Trails.{Search}
 use Rattle.clause_watches.specs.Watching.{Watched, AreWatched, IsConflict}
 use Rattle.conflict_solver.specs.declared.verdict.SolveFault.{SolveFault}
 use Rattle.conflict_solver.specs.declared.verdict.SolveFault.TheVariants.{Sink}
-use Rattle.conflict_solver.specs.Deriving.{AreDerived, line_clauses}
 
 -- What a call keeps of its sink: its count of faults never falls, rose where the answer is its fault, and is as it was
 -- where it is another.

@@ -6,7 +6,7 @@ use Rattle.std.proofs.lemmas.List.Sums.{count_by-le-length, count_by_more_no}
 use Rattle.clause_base.specs.Formulas.{Clauses}
 use Rattle.clause_base.specs.Teaching.{Teaches}
 use Rattle.clause_base.specs.Plain.{IsPlain}
-use Rattle.refutation_check.specs.Following.{Follows, IsDerivation}
+use Rattle.refutation_check.specs.Following.{Follows}
 use Rattle.refutation_check.specs.Deriving.{line_clauses, filled_lines, AllTeach}
 use Rattle.refutation_check.proofs.Derivations.{follow_more}
 use Rattle.proof_sinks.specs.declared.lines.Said.{Said}

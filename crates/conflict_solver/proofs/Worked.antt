@@ -1,5 +1,5 @@
 -- Worked values of the definitions, each computed, and instances that hold or are refused.
-use Rattle.std.proofs.Common.{◌≡◌, ℕ, ℤ, pos, negsuc, true, false, List, [], ◌∷◌, refl, length, arith}
+use Rattle.std.proofs.Common.{◌≡◌, pos, negsuc, true, false, [], ◌∷◌, refl, arith}
 use Rattle.clause_base.specs.Solving.{is_true_under, IsTrueUnder}
 use Rattle.clause_base.proofs.Instances.{all}
 use Rattle.clause_base.proofs.Worked.{square}

@@ -1,12 +1,15 @@
 pub mod LiteralLemmas
 pub mod Rising
+pub mod OneRising
 pub mod Solved
 pub mod Teachings
 pub mod Tautologies
 pub mod PartLemmas
 pub mod NumberLemmas
+pub mod Values
 pub mod ReadingLemmas
 pub mod FormulaLemmas
 pub mod FaultLemmas
 pub mod Instances
 pub mod Worked
+pub mod WorkedClauses

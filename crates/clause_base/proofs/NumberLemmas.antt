@@ -1,36 +1,33 @@
 -- Words that are numbers: digits with no leading zero are decimals.
-use Rattle.std.proofs.Common.{◌≡◌, ℕ, zero, suc, ◌+◌, ◌-◌, ◌*◌, ◌^◌, ◌<◌, ◌≤◌, ℤ, pos, negsuc, Bool, true, false, not, ◌&&◌, ◌||◌, ◌==◌, if◌then◌else◌, nat_lt, nat_le, List, [], ◌∷◌, length, get_or, take, drop, min, Option, Some, None, refl, sym, ap, ◌∙◌, arith, rules}
+use Rattle.std.proofs.Common.{◌≡◌, ℕ, zero, suc, ◌^◌, ◌<◌, ◌≤◌, inl, inr, ℤ, pos, negsuc, Bool, true, false, not, ◌&&◌, ◌||◌, ◌==◌, nat_lt, nat_le, List, [], ◌∷◌, length, get_or, drop, Option, Some, None, Result, Ok, Err, SomeIff, OkIff, MatchResult, is_ok, refl, sym, ap, ◌∙◌, subst, arith, rules}
 use Rattle.std.specs.List.{list_all}
-use Rattle.std.specs.Char.{is_ascii_digit, digit_value}
+use Rattle.std.specs.Char.{is_ascii_digit}
 use Rattle.std.specs.Fmt.{decimal, signed_decimal}
-use Rattle.std.specs.Str.Parse.{digits_value}
+use Rattle.std.specs.Str.Parse.{digits_value, ParsesUnsigned}
+use Rattle.std.specs.Result.{result_ok}
+use Rattle.std.specs.Str.{IsUtf8}
+use Rattle.std.proofs.lemmas.Bool.{cases_lt}
 use Rattle.std.proofs.lemmas.Bool.Decides.{nat_tests}
+use Rattle.std.proofs.lemmas.List.{get_or_past}
 use Rattle.std.proofs.lemmas.Fmt.{decimal-digits_value, decimal_digit, decimal_nonempty, first_decimal, digits_decimal, digits_value-decimal}
-use Rattle.std.proofs.lemmas.Int.Digits.{digits_value_more}
-use Rattle.std.proofs.lemmas.Str.Parse.{IsNumeralModel, numerals_by_value, digit_at}
+use Rattle.std.proofs.lemmas.Str.{IsUtf8-from_ascii}
+use Rattle.std.proofs.lemmas.Str.Parse.{IsNumeralModel, numerals_by_value, digit_at, parse_digits}
 use Rattle.clause_base.specs.TextWords.{has_bytes}
-use Rattle.clause_base.specs.FormulaText.{most_vars, most_clauses, is_literal_of}
-use Rattle.clause_base.specs.FormulaFaults.{is_number}
-use Rattle.clause_base.specs.Readers.{number_of}
+use Rattle.clause_base.specs.FormulaText.{most_vars, is_literal_of}
+use Rattle.clause_base.specs.FormulaFaults.{is_number, IsOverMost}
+use Rattle.clause_base.proofs.LiteralLemmas.{no_both}
 
 pub own : IsNumeralModel (λ ds. list_all is_ascii_digit ds ≡ true) (digits_value 10)
 own = numerals_by_value (λ ds. list_all is_ascii_digit ds ≡ true) (search rules)
 
-digit_worth : (b : ℕ) → 48 ≤ b → b ≤ 57 → digit_value b ≡ b - 48
-digit_worth b low high = grind (arith, nat_tests)
-
-capped : (n d w over : ℕ) → w ≡ n * 10 + d → min (min n over * 10 + d) over ≡ min w over
-capped n d w over e = omega arith
-
--- one digit more, where a value over the limit stays just over it
-pub value_more : (digits : List ℕ) (i value over : ℕ) → list_all is_ascii_digit digits ≡ true → i < length digits → value ≡ min (digits_value 10 (take i digits)) over
-    → min (value * 10 + (get_or digits i 0 - 48)) over ≡ min (digits_value 10 (take (i + 1) digits)) over
-value_more digits i value over d h v =
-    let digit = digit_at digits i (own.to digits d) h in
-    let worth : digit_value (get_or digits i 0) ≡ get_or digits i 0 - 48 = digit_worth (get_or digits i 0) digit.0 digit.1 in
-    let step = digits_value_more 10 digits i h in
-    let total : digits_value 10 (take (i + 1) digits) ≡ digits_value 10 (take i digits) * 10 + (get_or digits i 0 - 48) = omega (arith, step, worth) in
-    ap (λ x. min (x * 10 + (get_or digits i 0 - 48)) over) v ∙ capped (digits_value 10 (take i digits)) (get_or digits i 0 - 48) _ over total
+-- digits are a text
+pub digits_utf8 : (ds : List ℕ) → list_all is_ascii_digit ds ≡ true → IsUtf8 ds
+digits_utf8 ds digits = IsUtf8-from_ascii ds low where
+  low : (i : ℕ) → get_or ds i 0 < 128
+  low i = elim (cases_lt i (length ds)) [
+    | inl lt ↦ let digit = digit_at ds i (own.to ds digits) lt in omega (arith, digit.1)
+    | inr more ↦ omega (arith, get_or_past ds i 0 more)
+  ]
 
 -- ---- numbers and decimals
 
@@ -76,41 +73,43 @@ is_number-decimal n small = is_number_by (decimal n) (digits_decimal own n small
 pub value-decimal : (n : ℕ) → n < 2 ^ 64 → digits_value 10 (decimal n) ≡ n
 value-decimal n small = digits_value-decimal own n small
 
--- what the reader of numbers says of a decimal
-pub number_of-decimal : (n : ℕ) → n ≤ most_clauses → number_of (decimal n) ≡ Some n
-number_of-decimal n few =
-    (λ i. if is_number-decimal n (omega (arith, few)) i then Some (min (digits_value 10 (decimal n)) (most_clauses + 1)) else None)
-    ∙ (λ i. Some (min (value-decimal n (omega (arith, few)) i) (most_clauses + 1)))
-    ∙ ap Some (least n few)
+-- a word that is no number is no decimal
+pub no_decimal : (word : List ℕ) (n : ℕ) → n < 2 ^ 64 → is_number word ≡ false → word ≡ decimal n → ⊥
+no_decimal word n small other is = no_both (ap is_number is ∙ is_number-decimal n small) other
+
+-- a decimal has the value of its digits
+pub decimal_value : (word : List ℕ) (n : ℕ) → n < 2 ^ 64 → word ≡ decimal n → digits_value 10 word ≡ n
+decimal_value word n small is = ap (digits_value 10) is ∙ value-decimal n small
+
+-- a number that is spelled by no decimal up to this is over it
+pub over_most : (word : List ℕ) (most : ℕ) → most < 2 ^ 64 → is_number word ≡ true → ((n : ℕ) → n ≤ most → word ≡ decimal n → ⊥) → IsOverMost most word
+over_most word most small is none = record {
+  number = is;
+  over = elim (cases_lt most (digits_value 10 word)) [
+    | inl over ↦ over
+    | inr few ↦ absurd (none (digits_value 10 word) few (sym (decimal_of word is (omega (arith, few, small)))))
+  ];
+}
+
+-- what has no error is a text
+pub is_text : {S E : Type 0} (P : S → Type 0) (N : E → Type 0) (result : Result S E) → MatchResult result P N → ((e : E) → N e → ⊥) → is_ok result ≡ true
+is_text P N (Ok s) h none = refl
+is_text P N (Err e) h none = absurd (none e h)
+
+-- what is known of it
+pub text_is : {S E : Type 0} (P : S → Type 0) (N : E → Type 0) (result : Result S E) (found : Option S) (s : S) → MatchResult result P N → found ≡ result_ok result → found ≡ Some s → P s
+text_is P N (Ok x) found s h given is = subst P (let same : Some x ≡ Some s = sym given ∙ is in cc) h
+text_is {S = S} P N (Err e) found s h given is = let both : ⊥ = (let same : ◌≡◌ {A = Option S} None (Some s) = sym given ∙ is in cc) in absurd both
+
+-- what the value of digits is, as it is parsed
+pub parsed : {E : Type 0} (result : Result ℕ E) (found : Option ℕ) (text digits : List ℕ) → is_number digits ≡ true → text ≡ digits → ParsesUnsigned 64 10 text result → found ≡ result_ok result
+    → SomeIff found (digits_value 10 digits < 2 ^ 64) (digits_value 10 digits)
+parsed result found text digits is same parses ok = subst (λ o. SomeIff o (digits_value 10 digits < 2 ^ 64) (digits_value 10 digits)) (sym ok)
+    (by_result result (parse_digits own 64 digits result (subst (λ t. ParsesUnsigned 64 10 t result) same parses) (digits_of_number digits is)))
   where
-    least : (n : ℕ) → n ≤ most_clauses → min n (most_clauses + 1) ≡ n
-    least n few = omega arith
-
-some_number : (t : Bool) (value n : ℕ) → Some n ≡ (if t then Some value else None) → (t ≡ true) × (n ≡ value)
-some_number true value n is = (refl, cc)
-some_number false value n is = cc
-
--- a number that is read is a number
-pub number_is : (word : List ℕ) (n : ℕ) → Some n ≡ number_of word → (is_number word ≡ true) × (n ≡ min (digits_value 10 word) (most_clauses + 1))
-number_is word n is = some_number (is_number word) _ n is
-
--- one within the limits is spelled as a decimal
-pub spelled_of : (word : List ℕ) (n : ℕ) → Some n ≡ number_of word → n ≤ most_clauses → word ≡ decimal n
-spelled_of word n is few =
-    let (number, value) = number_is word n is in
-    let same : n ≡ digits_value 10 word = omega (arith, value, few) in
-    sym (decimal_of word number (omega (arith, same, few))) ∙ ap decimal (sym same)
-
--- no other word is
-pub not_spelled : (word : List ℕ) (n : ℕ) → None ≡ number_of word → n ≤ most_clauses → word ≡ decimal n → ⊥
-not_spelled word n none few is = clash n (none ∙ ap number_of is ∙ number_of-decimal n few) where
-  clash : (n : ℕ) → ◌≡◌ {A = Option ℕ} None (Some n) → ⊥
-  clash n e = cc
-
-pub one_spelled : (word : List ℕ) (m n : ℕ) → Some m ≡ number_of word → n ≤ most_clauses → word ≡ decimal n → m ≡ n
-one_spelled word m n some few is = same m n (some ∙ ap number_of is ∙ number_of-decimal n few) where
-  same : (m n : ℕ) → Some m ≡ Some n → m ≡ n
-  same m n e = cc
+    by_result : {E : Type 0} (result : Result ℕ E) → OkIff result ((0 < length digits) × (digits_value 10 digits < 2 ^ 64)) (digits_value 10 digits) → SomeIff (result_ok result) (digits_value 10 digits < 2 ^ 64) (digits_value 10 digits)
+    by_result (Ok x) h = (h.0.1, h.1)
+    by_result (Err e) h = λ small. h (some_of_number digits is, small)
 
 -- ---- literals
 

@@ -1,14 +1,13 @@
 -- What readers take of a formula's words.
-use Rattle.std.proofs.Common.{◌≡◌, ℕ, ◌<◌, ◌≤◌, ℤ, Bool, true, false, not, ◌&&◌, if◌then◌else◌, Option, Some, None, IfSome, List, [], ◌∷◌, ◌++◌, length, map, codes, refl, sym, ap, ◌∙◌, subst, arith, append_assoc, length-append}
+use Rattle.std.proofs.Common.{◌≡◌, ℕ, ◌<◌, ◌≤◌, ℤ, Bool, true, false, not, ◌&&◌, Option, Some, None, IfSome, List, [], ◌∷◌, ◌++◌, length, map, codes, refl, sym, ap, ◌∙◌, subst, arith, append_assoc, length-append}
 use Rattle.std.specs.List.{list_all, flat_map}
-use Rattle.std.specs.Fmt.{decimal, signed_decimal}
+use Rattle.std.specs.Fmt.{signed_decimal}
 use Rattle.std.proofs.lemmas.List.{append-nil, flat_map_more, map-append}
 use Rattle.std.proofs.lemmas.List.Folds.{list_all-append}
 use Rattle.clause_base.specs.TextWords.{Word, texts_of}
-use Rattle.clause_base.specs.FormulaText.{most_clauses, is_literal_of, clause_texts}
-use Rattle.clause_base.specs.FormulaFaults.{is_number}
-use Rattle.clause_base.specs.Readers.{Takes, Begins, BeginsLarge, number_of, word_text, GoesOn, next_at, are_literals, StopsInClause}
-use Rattle.clause_base.proofs.NumberLemmas.{not_spelled}
+use Rattle.clause_base.specs.FormulaText.{is_literal_of, clause_texts}
+use Rattle.clause_base.specs.FormulaFaults.{IsOverMost}
+use Rattle.clause_base.specs.Readers.{Takes, BeginsLarge, word_text, GoesOn, next_at, are_literals, StopsInClause}
 
 pub takes_none : (words : List Word) → Takes words words []
 takes_none words = record { taken = []; whole = refl; spelled = refl }
@@ -80,16 +79,9 @@ pub turned : (t : Bool) → false ≡ not t → true ≡ t
 turned true e = refl
 turned false e = cc
 
-no_value : (t : Bool) (n : ℕ) → ◌≡◌ {A = Option ℕ} None (if t then Some n else None) → t ≡ true → ⊥
-no_value true n none is = cc
-no_value false n none is = cc
-
--- the next word is no number
-pub no_number : {old new : List Word} (word : Word) (most end : ℕ) → old ≡ word ∷ new → None ≡ number_of word.text → most ≤ most_clauses
-    → (word.at ≡ next_at end old) × ((n : ℕ) → n ≤ most → Begins (decimal n) (texts_of old) → ⊥) × (BeginsLarge most (texts_of old) → ⊥)
-no_number word most end is none few =
-    subst (λ words. (word.at ≡ next_at end words) × ((n : ℕ) → n ≤ most → Begins (decimal n) (texts_of words) → ⊥) × (BeginsLarge most (texts_of words) → ⊥)) (sym is)
-    (refl, λ n small spelled. not_spelled word.text n none (omega (arith, small, few)) spelled, λ large. no_value (is_number word.text) _ none large.number)
+-- the next word is a number over the limit
+pub large_number : {old new : List Word} (word : Word) (most end : ℕ) → old ≡ word ∷ new → IsOverMost most word.text → (word.at ≡ next_at end old) × BeginsLarge most (texts_of old)
+large_number word most end is over = subst (λ words. (word.at ≡ next_at end words) × BeginsLarge most (texts_of words)) (sym is) (refl, over)
 
 -- the same, of what the reader of a literal gives
 pub literal_step : {vars count : ℕ} {old new next : List Word} {clauses : List (List ℤ)} {lits items : List ℤ} (found : Option ℤ) (l : ℤ) → HasRead vars count old new clauses lits → length clauses < count

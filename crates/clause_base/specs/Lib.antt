@@ -6,4 +6,6 @@ pub mod Formulas
 pub mod TextWords
 pub mod FormulaText
 pub mod FormulaFaults
+pub mod ClauseText
+pub mod Plain
 pub mod Readers

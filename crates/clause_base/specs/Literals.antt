@@ -14,6 +14,10 @@ IsLiteral z = is_literal z ≡ true
 abbrev pub is_in : List ℤ → ℤ → Bool
 is_in clause l = list_any (λ m. int_eq m l) clause
 
+-- the literal at this place of a clause, counted from 0
+abbrev pub lit_at : List ℤ → ℕ → ℤ
+lit_at clause place = slice_index_or clause place (pos 0)
+
 -- Each literal is below those behind it.
 pub record IsRising (clause : List ℤ) : Type 0 where
   pub rising : (j k : ℕ) (d : ℤ) → j < k → k < length clause → slice_index_or clause j d <ℤ slice_index_or clause k d

@@ -1,5 +1,5 @@
 -- When a clause says something that no earlier clause says.
-use Rattle.std.specs.Prelude.{◌≢◌, ℤ, neg_ℤ, List, All, Contains}
+use Rattle.std.specs.Prelude.{◌≢◌, ℤ, neg_ℤ, List, [], ◌∷◌, ◌++◌, All, Contains}
 
 -- no literal stands beside its negation
 pub record IsApart (clause : List ℤ) : Type 0 where
@@ -22,3 +22,8 @@ pub record HaveSame (a b : List ℤ) : Type 0 where
 pub record IsNew (earlier : List (List ℤ)) (clause : List ℤ) : Type 0 where
   pub apart : IsApart clause
   pub fresh : All (λ other. HaveSame other clause → ⊥) earlier
+
+-- Each clause is new after the earlier ones and those before it.
+abbrev pub AreNew : List (List ℤ) → List (List ℤ) → Type 0
+AreNew earlier [] = Unit {0}
+AreNew earlier (clause ∷ clauses) = IsNew earlier clause × AreNew (earlier ++ clause ∷ []) clauses

@@ -1,15 +1,14 @@
 -- What the readers of a formula's words say.
-use Rattle.std.specs.Prelude.{◌≡◌, ◌⊎◌, ℕ, ◌+◌, ◌<◌, ◌≤◌, ℤ, Bool, true, List, [], ◌∷◌, ◌++◌, length, map, min, codes, Option, Some, None, if◌then◌else◌}
+use Rattle.std.specs.Prelude.{◌≡◌, ◌⊎◌, ℕ, ◌+◌, ◌<◌, ◌≤◌, ℤ, Bool, true, List, [], ◌∷◌, ◌++◌, length, map, codes, Option, Some, None}
 use Rattle.std.specs.List.{filter, flat_map, list_all}
 use Rattle.std.specs.Fmt.{decimal, signed_decimal}
-use Rattle.std.specs.Str.Parse.{digits_value}
 use Rattle.clause_base.specs.declared.faults.FormulaFault.{FormulaFault}
 use Rattle.clause_base.specs.declared.faults.FormulaFault.TheVariants.{TooLong, Syntax, TooLarge, NoMemory}
 use Rattle.clause_base.specs.declared.parts.Part.{Part}
 use Rattle.clause_base.specs.declared.words.Words.{Words}
 use Rattle.clause_base.specs.TextWords.{Word, is_white, is_line_feed, has_bytes, parts_of, words_in_lines, texts_of}
-use Rattle.clause_base.specs.FormulaText.{most_clauses, is_literal_of, clause_texts}
-use Rattle.clause_base.specs.FormulaFaults.{is_number, IsOverMost}
+use Rattle.clause_base.specs.FormulaText.{is_literal_of, clause_texts}
+use Rattle.clause_base.specs.FormulaFaults.{IsOverMost}
 
 -- ---- words
 
@@ -65,10 +64,6 @@ Begins text (word ∷ words) = word ≡ text
 abbrev pub BeginsLarge : ℕ → List (List ℕ) → Type 0
 BeginsLarge most [] = ⊥
 BeginsLarge most (word ∷ words) = IsOverMost most word
-
--- the number that is spelled, where each over the limits counts as one
-abbrev pub number_of : List ℕ → Option ℕ
-number_of text = if is_number text then Some (min (digits_value 10 text) (most_clauses + 1)) else None
 
 -- The next word is no number up to this.
 abbrev pub IsNumberFault : ℕ → ℕ → List Word → FormulaFault → Type 0

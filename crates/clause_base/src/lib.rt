@@ -22,8 +22,12 @@ mod words;
 pub use clauses::{Clause, distinct, normal};
 pub use faults::FormulaFault;
 pub use formulas::{Formula, solves};
-pub use laws::{one_answer, tautology_or_apart, teaching_is_new, teaching_is_no_superset};
+pub use laws::{
+    one_answer, one_rising_clause, tautology_or_apart, teaching_is_new, teaching_is_no_superset,
+    values_are_consistent,
+};
 pub use literals::Lit;
+pub use numbers::read_decimal;
 pub use reading::read_formula;
 
 #[cfg(test)]

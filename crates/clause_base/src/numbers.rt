@@ -1,24 +1,35 @@
-//! Words that are numbers or literals.
+//! Numbers and literals that bytes spell.
 
-ghost use Rattle.std.specs.Prelude.{◌≡◌, ℕ, ℤ, ◌+◌, ◌<◌, ◌≤◌, true, List, ◌∷◌, min, IfSome, IfNone};
+ghost use Rattle.std.specs.Prelude.{◌≡◌, ℕ, ℤ, ◌<◌, ◌≤◌, ◌^◌, true, List, ◌∷◌, IfSome, IfNone, SomeIff};
 ghost use Rattle.std.specs.List.{list_all};
 ghost use Rattle.std.specs.Char.{is_ascii_digit};
 ghost use Rattle.std.specs.Fmt.{decimal, signed_decimal};
 ghost use Rattle.std.specs.Str.Parse.{digits_value};
-ghost use Rattle.clause_base.specs.FormulaText.{most_vars, most_clauses, is_literal_of};
+ghost use Rattle.clause_base.specs.FormulaText.{most_vars, is_literal_of};
 ghost use Rattle.clause_base.specs.FormulaFaults.{is_number as is_number_lem};
-ghost use Rattle.clause_base.specs.Readers.{number_of};
 
 use crate::literals::Lit;
+use std::str;
 
-/// The most variables of a formula that is read.
-pub(crate) const MAX_VARS: u32 = 1_000_000;
-
-/// The most clauses of a formula that is read.
-pub(crate) const MAX_CLAUSES: u32 = 4_000_000;
+/// The number up to `most` that the bytes spell in plain decimal, with no sign and no leading zero, or `None` where they
+/// spell none.
+pub fn read_decimal(bytes: &[u8], most: u64) -> Option<u64>
+    ensures most { IfSome result (λ n. n ≤ most) }
+    ensures spelled { IfSome result (λ n. bytes.now ≡ decimal n) }
+    ensures none { IfNone result ((n : ℕ) → n ≤ most → bytes.now ≡ decimal n → ⊥) }
+{
+    if !is_number(bytes) {
+        return None;
+    }
+    let number = value_of(bytes)?;
+    if number > most {
+        return None;
+    }
+    Some(number)
+}
 
 /// Whether the word is of digits, with no leading zero.
-fn is_number(word: &[u8]) -> bool
+pub(crate) fn is_number(word: &[u8]) -> bool
     ensures { result ≡ is_number_lem word.now }
 {
     let Some((first, rest)) = word.split_first() else {
@@ -34,26 +45,12 @@ fn are_digits(word: &[u8]) -> bool
     word.iter().all(|byte| byte.is_ascii_digit())
 }
 
-/// The value of digits, up to the first number over all limits.
-fn value_of(digits: &[u8]) -> u32
-    requires { list_all is_ascii_digit digits.now ≡ true }
-    ensures { result ≡ min (digits_value 10 digits.now) (most_clauses + 1) }
+/// The number that digits spell, or `None` where it takes more than 64 bits.
+fn value_of(digits: &[u8]) -> Option<u64>
+    requires { is_number_lem digits.now ≡ true }
+    ensures { SomeIff result (digits_value 10 digits.now < 2 ^ 64) (digits_value 10 digits.now) }
 {
-    let mut value = 0u32;
-    for digit in digits {
-        value = (value * 10 + u32::from(*digit - b'0')).min(MAX_CLAUSES + 1);
-    }
-    value
-}
-
-/// The number that the word spells, where all numbers over the limits count as one.
-pub(crate) fn number(word: &[u8]) -> Option<u32>
-    ensures { result ≡ number_of word.now }
-{
-    if !is_number(word) {
-        return None;
-    }
-    Some(value_of(word))
+    str::from_utf8(digits).ok()?.parse().ok()
 }
 
 /// The literal that the word spells, if it is one of these variables or its negation.
@@ -77,11 +74,11 @@ fn variable(word: &[u8], vars: u32) -> Option<u32>
     ensures spelled { IfSome result (λ n. word.now ≡ decimal n) }
     ensures none { IfNone result ((n : ℕ) → 0 < n → n ≤ vars → word.now ≡ decimal n → ⊥) }
 {
-    let size = number(word)?;
-    if size == 0 || size > vars {
+    let size = read_decimal(word, u64::from(vars))?;
+    if size == 0 {
         return None;
     }
-    Some(size)
+    Some(size as u32)
 }
 
 /// What stands behind a `-`.

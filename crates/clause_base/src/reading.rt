@@ -12,9 +12,15 @@ use crate::clauses::Clause;
 use crate::faults::FormulaFault;
 use crate::formulas::Formula;
 use crate::literals::Lit;
-use crate::numbers::{MAX_CLAUSES, MAX_VARS, literal, number};
+use crate::numbers::{is_number, literal, read_decimal};
 use crate::words::Words;
 use std::alloc::{AllocError, Global};
+
+/// The most variables of a formula that is read.
+const MAX_VARS: u32 = 1_000_000;
+
+/// The most clauses of a formula that is read.
+const MAX_CLAUSES: u32 = 4_000_000;
 
 /// Reads a formula: `p cnf`, the number of variables, the number of clauses, and the clauses, each of which is a list of
 /// literals and a `0`. Words are separated by spaces, tabs, CR and LF; lines that begin with `c` are comments. Behind
@@ -56,7 +62,6 @@ fn read_keyword(words: &mut Words<'_>, keyword: &[u8]) -> Result<(), FormulaFaul
 
 /// Reads a number up to `most`.
 fn read_number(words: &mut Words<'_>, most: u32) -> Result<u32, FormulaFault>
-    requires { most ≤ most_clauses }
     ensures end { words.new.end ≡ words.old.end }
     ensures most { IfOk result (λ n. n ≤ most) }
     ensures taken { IfOk result (λ n. Takes (left words.old) (left words.new) (decimal n ∷ [])) }
@@ -65,13 +70,11 @@ fn read_number(words: &mut Words<'_>, most: u32) -> Result<u32, FormulaFault>
     let Some(word) = words.next() else {
         return Err(FormulaFault::Syntax(words.end as u64));
     };
-    let Some(number) = number(word.text) else {
-        return Err(FormulaFault::Syntax(word.at as u64));
-    };
-    if number > most {
-        return Err(FormulaFault::TooLarge(word.at as u64));
+    match read_decimal(word.text, u64::from(most)) {
+        Some(number) => Ok(number as u32),
+        None if is_number(word.text) => Err(FormulaFault::TooLarge(word.at as u64)),
+        None => Err(FormulaFault::Syntax(word.at as u64)),
     }
-    Ok(number)
 }
 
 /// Reads as many clauses over these variables.

@@ -1,6 +1,8 @@
 //! Tests of literals, clauses, formulas and their texts.
 
-use crate::{Clause, Formula, FormulaFault, Lit, distinct, normal, read_formula, solves};
+use crate::{
+    Clause, Formula, FormulaFault, Lit, distinct, normal, read_decimal, read_formula, solves,
+};
 use std::alloc::{AllocError, Global};
 use std::test::Fail;
 
@@ -30,6 +32,26 @@ fn literals_are_numbers_but_two(rt: HostRuntime) -> Result<(), Fail> {
     }
     assert!(rt; Lit::new(0).is_none());
     assert!(rt; Lit::new(i32::MIN).is_none());
+    Ok(())
+}
+
+#[test]
+fn decimals_have_no_sign_and_no_leading_zero(rt: HostRuntime) -> Result<(), Fail> {
+    let rows: [(&[u8], u64, Option<u64>); 10] = [
+        (b"0", 0, Some(0)),
+        (b"30", 30, Some(30)),
+        (b"31", 30, None),
+        (b"18446744073709551615", u64::MAX, Some(u64::MAX)),
+        (b"18446744073709551616", u64::MAX, None),
+        (b"", 9, None),
+        (b"07", 9, None),
+        (b"+7", 9, None),
+        (b"-0", 9, None),
+        (b"7 ", 9, None),
+    ];
+    for (bytes, most, number) in rows {
+        assert_eq!(rt; read_decimal(bytes, most), number);
+    }
     Ok(())
 }
 

@@ -5,11 +5,12 @@ use Rattle.std.proofs.Math.IntN.{neg_ℤ-neg_ℤ}
 use Rattle.std.proofs.lemmas.Bool.{cases_lt}
 use Rattle.std.proofs.lemmas.List.{take_all, take-append-le, length_push, get_or_past, get_or_default}
 use Rattle.std.proofs.lemmas.List.Elements.{All-contains}
-use Rattle.clause_base.specs.Literals.{is_in}
+use Rattle.clause_base.specs.Literals.{is_in, lit_at}
 use Rattle.clause_base.specs.Novelty.{IsTautology}
 use Rattle.clause_base.specs.Teaching.{IsConsistent, IsPropagated}
+use Rattle.clause_base.specs.Plain.{IsOnce}
 use Rattle.clause_base.proofs.LiteralLemmas.{by_test, no_both, in_contains}
-use Rattle.search_trail.specs.Trails.{Search, IsOnce, lit_at, start_at, front, front_size, with_implied}
+use Rattle.search_trail.specs.Trails.{Search, start_at, front, front_size, with_implied}
 use Rattle.search_trail.proofs.Members.{in_from, in_taken, in_further, in_pushed, take_at, at_take, lit_new}
 use Rattle.clause_watches.specs.Listing.{IsOther}
 use Rattle.clause_watches.specs.Watching.{IsBacked, IsGuarded, IsWatched}

@@ -5,10 +5,11 @@ use Rattle.std.proofs.Math.IntN.{neg_ℤ-neg_ℤ}
 use Rattle.std.proofs.lemmas.Bool.{cases_eq}
 use Rattle.std.proofs.lemmas.List.{take_all, take_more, take-take, get_or_default, take-append-le, length_push, length-set, get_or-set_same, get_or-set_other}
 use Rattle.std.proofs.lemmas.List.Elements.{Contains-push_cases}
-use Rattle.clause_base.specs.Literals.{is_in}
+use Rattle.clause_base.specs.Literals.{is_in, lit_at}
+use Rattle.clause_base.specs.Plain.{IsOnce}
 use Rattle.clause_base.proofs.LiteralLemmas.{by_lit}
 use Rattle.refutation_check.specs.Following.{IsNumber, numbered}
-use Rattle.search_trail.specs.Trails.{Search, IsOnce, IsReason, lit_at, with_implied}
+use Rattle.search_trail.specs.Trails.{Search, IsReason, with_implied}
 use Rattle.search_trail.proofs.Members.{lit_before}
 use Rattle.clause_watches.specs.Listing.{Listed, AreListed, pair_of, list_of, IsOther}
 use Rattle.clause_watches.specs.Watching.{IsGuarded, IsWatched, AreWatched, HasGrown}

@@ -1,9 +1,9 @@
 -- The clauses that are watched at a literal which has become false, one after the other.
 use Rattle.std.specs.Prelude.{◌≡◌, ◌≢◌, ◌⊎◌, ℕ, ◌<◌, ◌≤◌, ◌+◌, ℤ, neg_ℤ, true, false, Some, List, length, take, All, Contains}
-use Rattle.clause_base.specs.Literals.{is_in}
+use Rattle.clause_base.specs.Literals.{is_in, lit_at}
 use Rattle.clause_base.specs.Teaching.{AllButNegated}
 use Rattle.refutation_check.specs.Following.{IsNumber, numbered}
-use Rattle.search_trail.specs.Trails.{Search, lit_at, start_at}
+use Rattle.search_trail.specs.Trails.{Search, start_at}
 use Rattle.clause_watches.specs.Listing.{Listed, pair_of, list_of, IsOther}
 use Rattle.clause_watches.specs.Watching.{Watched, IsWatched}
 use Rattle.clause_watches.specs.declared.visit.Action.{Action}

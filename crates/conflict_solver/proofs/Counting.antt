@@ -12,8 +12,9 @@ use Rattle.std.proofs.lemmas.Map.Steps.{length-le_from_distinct_below}
 use Rattle.clause_base.specs.FormulaText.{is_literal_of}
 use Rattle.clause_base.specs.Literals.{is_in}
 use Rattle.clause_base.specs.Novelty.{IsApart, HaveSame}
+use Rattle.clause_base.specs.Plain.{IsPlain}
 use Rattle.clause_base.proofs.LiteralLemmas.{by_test, in_contains, contains_in}
-use Rattle.conflict_solver.specs.Deriving.{AllNew, IsPlain}
+use Rattle.refutation_check.specs.Deriving.{AllNew}
 use Rattle.conflict_solver.proofs.Derivations.{empty_plain}
 
 -- ---- a number for each clause

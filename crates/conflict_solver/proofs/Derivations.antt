@@ -5,21 +5,18 @@ use Rattle.std.proofs.lemmas.List.Elements.{All-push}
 use Rattle.std.proofs.lemmas.List.Sums.{count_by-le-length, count_by_more_no}
 use Rattle.clause_base.specs.Formulas.{Clauses}
 use Rattle.clause_base.specs.Teaching.{Teaches}
-use Rattle.refutation_check.specs.Following.{Follows, IsDerivation}
+use Rattle.clause_base.specs.Plain.{IsPlain}
+use Rattle.refutation_check.specs.Following.{Follows}
+use Rattle.refutation_check.specs.Deriving.{line_clauses, filled_lines, AllTeach}
+use Rattle.refutation_check.proofs.Derivations.{follow_more}
 use Rattle.proof_sinks.specs.declared.lines.Said.{Said}
 use Rattle.proof_sinks.specs.declared.lines.Said.TheVariants.{Derived}
 use Rattle.proof_sinks.specs.Lines.{given_lines, derived_lines, proof_of}
 use Rattle.search_trail.specs.Trails.{Search}
-use Rattle.conflict_solver.specs.Deriving.{line_clauses, filled_lines, AllTeach, IsPlain, IsProof}
+use Rattle.conflict_solver.specs.Deriving.{IsProof}
 use Rattle.conflict_solver.specs.Answering.{IsAnswered}
 use Rattle.conflict_solver.specs.declared.verdict.Verdict.TheVariants.{Refuted}
 use Rattle.conflict_solver.specs.Running.{IsUnderWay}
-
-follow_more : (earlier : List (List ℤ)) (lines : List (List ℤ × List ℕ)) (clause : List ℤ) (hints : List ℕ)
-    → IsDerivation earlier lines → Follows (earlier ++ line_clauses lines) clause hints → IsDerivation earlier (lines ++ (clause, hints) ∷ [])
-follow_more earlier [] clause hints d f = (subst (λ cs. Follows cs clause hints) (append-nil earlier) f, tt)
-follow_more earlier (line ∷ lines) clause hints (first, rest) f =
-    (first, follow_more (earlier ++ line.0 ∷ []) lines clause hints rest (subst (λ cs. Follows cs clause hints) (sym (append_assoc earlier (line.0 ∷ []) (line_clauses lines))) f))
 
 teach_more : (earlier : List (List ℤ)) (lines : List (List ℤ × List ℕ)) (clause : List ℤ) (hints : List ℕ)
     → AllTeach earlier lines → (clause ≡ []) ⊎ Teaches (earlier ++ line_clauses lines) clause → AllTeach earlier (lines ++ (clause, hints) ∷ [])

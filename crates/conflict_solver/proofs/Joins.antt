@@ -5,12 +5,12 @@ use Rattle.std.proofs.lemmas.Bool.{cases_lt}
 use Rattle.std.proofs.lemmas.List.Elements.{Contains-get_or}
 use Rattle.std.proofs.lemmas.List.{take_all, take-take, take-append-le, length_push, length-take, get_or_default, get_or-take, get_or_past, get_or_push, get_or_append_left}
 use Rattle.std.proofs.lemmas.Int.{ints}
-use Rattle.clause_base.specs.Literals.{is_in}
+use Rattle.clause_base.specs.Literals.{is_in, lit_at}
 use Rattle.clause_base.specs.Formulas.{IsClauseWithin}
 use Rattle.clause_base.specs.Teaching.{AllButNegated}
 use Rattle.clause_base.proofs.LiteralLemmas.{no_both, in_contains}
 use Rattle.refutation_check.specs.Following.{IsNumber, numbered}
-use Rattle.search_trail.specs.Trails.{Search, IsSearch, IsReason, lit_at, start_at, front, front_size, with_clause, with_implied, back_at}
+use Rattle.search_trail.specs.Trails.{Search, IsSearch, IsReason, start_at, front, front_size, with_clause, with_implied, back_at}
 use Rattle.search_trail.specs.Learning.{IsLearnt, IsAsserting, IsJump}
 use Rattle.search_trail.proofs.Members.{in_from, in_taken, in_pushed, by_push, lit_before, lit_new, in_at}
 use Rattle.search_trail.proofs.Growing.{size_inside, levels_back}

@@ -3,11 +3,12 @@ use Rattle.std.proofs.Common.{◌≡◌, ◌≢◌, ◌⊎◌, inl, inr, ℕ, �
 use Rattle.std.proofs.lemmas.Int.{ints}
 use Rattle.std.proofs.lemmas.Bool.Decides.{nat_tests}
 use Rattle.std.proofs.lemmas.List.Elements.{All-head, All-tail, All-weaker}
+use Rattle.clause_base.specs.Plain.{IsPlain}
 use Rattle.clause_base.proofs.Teachings.{is_new}
 use Rattle.clause_base.specs.FormulaText.{is_literal_of}
 use Rattle.clause_base.specs.Novelty.{IsNew}
 use Rattle.clause_base.specs.Teaching.{Teaches}
-use Rattle.conflict_solver.specs.Deriving.{AllTeach, AllNew, IsPlain}
+use Rattle.refutation_check.specs.Deriving.{AllTeach, AllNew}
 
 nonzero : (vars : ℕ) (l : ℤ) → is_literal_of vars l ≡ true → l ≢ pos 0
 nonzero vars l is same = grind (arith, ints, nat_tests, is, same)

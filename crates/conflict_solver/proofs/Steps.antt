@@ -9,8 +9,10 @@ use Rattle.clause_base.specs.Literals.{is_in}
 use Rattle.clause_base.specs.Formulas.{Clauses, IsFormula}
 use Rattle.clause_base.specs.FormulaText.{is_literal_of}
 use Rattle.clause_base.specs.Teaching.{Teaches, IsOpen}
+use Rattle.clause_base.specs.Plain.{IsPlain}
 use Rattle.clause_base.proofs.LiteralLemmas.{in_contains}
 use Rattle.refutation_check.specs.Following.{Follows, numbered}
+use Rattle.refutation_check.specs.Deriving.{AreDerived, AreExhausted}
 use Rattle.proof_sinks.specs.declared.lines.Said.{Said}
 use Rattle.proof_sinks.specs.declared.lines.Said.TheVariants.{Axiom, Derived}
 use Rattle.proof_sinks.specs.Lines.{given_lines, derived_lines}
@@ -18,8 +20,8 @@ use Rattle.search_trail.specs.Trails.{Search, IsSearch, front_size, with_clause,
 use Rattle.search_trail.specs.Learning.{IsLearnt, IsAsserting, IsDoneBelow}
 use Rattle.clause_watches.specs.Watching.{Watched, AreWatched, HasGrown}
 use Rattle.clause_watches.proofs.Kept.{closed, decision_kept}
-use Rattle.conflict_solver.specs.Deriving.{IsPlain, AreDerived, IsProof, IsProofSoFar, AreGiven}
-use Rattle.conflict_solver.specs.Answering.{AreExhausted, IsAnswered}
+use Rattle.conflict_solver.specs.Deriving.{IsProof, IsProofSoFar, AreGiven}
+use Rattle.conflict_solver.specs.Answering.{IsAnswered}
 use Rattle.conflict_solver.specs.declared.verdict.Verdict.{Verdict}
 use Rattle.conflict_solver.specs.declared.verdict.Verdict.TheVariants.{Values, Refuted, Undecided}
 use Rattle.conflict_solver.specs.declared.verdict.SolveFault.{SolveFault}

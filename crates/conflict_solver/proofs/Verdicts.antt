@@ -8,13 +8,13 @@ use Rattle.clause_base.specs.Solving.{is_true_under, IsTrueUnder}
 use Rattle.clause_base.specs.Teaching.{IsOpen}
 use Rattle.clause_base.proofs.LiteralLemmas.{by_test, in_contains}
 use Rattle.refutation_check.specs.Following.{IsNumber, numbered}
+use Rattle.refutation_check.specs.Deriving.{line_clauses}
 use Rattle.proof_sinks.specs.declared.lines.Said.{Said}
 use Rattle.search_trail.specs.Trails.{Search, IsSearch, front, front_size}
 use Rattle.search_trail.proofs.Teaches.{front_consistent}
 use Rattle.clause_watches.specs.Watching.{Watched, AreWatched}
 use Rattle.clause_watches.proofs.Fronts.{top_front}
 use Rattle.clause_watches.proofs.Kept.{closed}
-use Rattle.conflict_solver.specs.Deriving.{line_clauses}
 use Rattle.conflict_solver.specs.Answering.{AreSolution, IsAnswered}
 use Rattle.conflict_solver.specs.declared.verdict.Verdict.{Verdict}
 use Rattle.conflict_solver.specs.declared.verdict.Verdict.TheVariants.{Values, Refuted, Undecided}

@@ -1,11 +1,10 @@
 -- What the verdict on a formula says.
-use Rattle.std.specs.Prelude.{◌≡◌, ◌≢◌, ℕ, ℤ, Bool, List, [], ◌∷◌, ◌++◌, length, All}
+use Rattle.std.specs.Prelude.{◌≡◌, ℕ, ℤ, Bool, List, length}
 use Rattle.clause_base.specs.Formulas.{Clauses}
 use Rattle.clause_base.specs.Solving.{is_true_under, Solves}
-use Rattle.clause_base.specs.Teaching.{IsOpen}
+use Rattle.refutation_check.specs.Deriving.{AreDerived, EndsEmpty, AreExhausted}
 use Rattle.proof_sinks.specs.declared.lines.Said.{Said}
 use Rattle.proof_sinks.specs.Lines.{proof_of}
-use Rattle.conflict_solver.specs.Deriving.{AreDerived, AllNew, line_clauses}
 use Rattle.conflict_solver.specs.declared.verdict.Verdict.{Verdict}
 use Rattle.conflict_solver.specs.declared.verdict.Verdict.TheVariants.{Values, Refuted, Undecided}
 
@@ -13,21 +12,6 @@ use Rattle.conflict_solver.specs.declared.verdict.Verdict.TheVariants.{Values, R
 pub record AreSolution (formula : Clauses) (values : List Bool) : Type 0 where
   pub each : length values ≡ formula.vars
   pub solve : Solves (is_true_under values) formula.clauses
-
--- The last line is empty, and no line before it is.
-pub record EndsEmpty (lines : List (List ℤ × List ℕ)) : Type 0 where
-  pub front : List (List ℤ × List ℕ)
-  pub hints : List ℕ
-  pub whole : lines ≡ front ++ ([], hints) ∷ []
-  pub filled : All (λ line. line.0 ≢ []) front
-
--- There are exactly `budget` lines, none of them empty and each new, and unit propagation alone refutes the clauses
--- and the lines not.
-pub record AreExhausted (formula : Clauses) (budget : ℕ) (lines : List (List ℤ × List ℕ)) : Type 0 where
-  pub count : length lines ≡ budget
-  pub filled : All (λ line. line.0 ≢ []) lines
-  pub new : AllNew formula.clauses lines
-  pub undecided : IsOpen (formula.clauses ++ line_clauses lines)
 
 -- what each verdict says of the formula and of the lines that were derived
 abbrev pub IsVerdict : Clauses → ℕ → List (List ℤ × List ℕ) → Verdict → Type 0

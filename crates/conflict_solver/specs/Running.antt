@@ -1,7 +1,8 @@
 -- A search under way.
-use Rattle.std.specs.Prelude.{◌≡◌, ◌≢◌, ℕ, ◌+◌, ◌*◌, ◌-◌, ◌≤◌, ℤ, Option, Result, Err, IfSome, IfNone, List, [], ◌++◌, length, take, All}
+use Rattle.std.specs.Prelude.{◌≡◌, ◌≢◌, ℕ, ◌+◌, ◌*◌, ◌-◌, ◌≤◌, ℤ, Bool, true, Option, Result, Err, IfSome, IfNone, List, [], ◌++◌, length, take, All}
 use Rattle.probe_io.specs.Causes.{Rose}
 use Rattle.clause_base.specs.Formulas.{Clauses}
+use Rattle.refutation_check.specs.Deriving.{AreDerived, line_clauses}
 use Rattle.proof_sinks.specs.Calls.{KeepsTold}
 use Rattle.proof_sinks.specs.declared.lines.Said.{Said}
 use Rattle.proof_sinks.specs.Lines.{given_lines, proof_of}
@@ -9,14 +10,17 @@ use Rattle.search_trail.specs.Trails.{Search}
 use Rattle.clause_watches.specs.Watching.{Watched, AreWatched, IsConflict}
 use Rattle.conflict_solver.specs.declared.verdict.SolveFault.{SolveFault}
 use Rattle.conflict_solver.specs.declared.verdict.SolveFault.TheVariants.{Sink}
-use Rattle.conflict_solver.specs.Deriving.{AreDerived, line_clauses}
 
 -- What a call keeps of its sink: its count of faults never falls, rose where the answer is its fault, and is as it was
--- where it is another.
-pub record KeepsSink {T : Type 0} (old_faults new_faults : ℕ) (old_before new_before : Option (List ℕ)) (result : Result T SolveFault) : Type 0 where
+-- where it is another one of a strict sink. Only its fault changes whether the text is whole, and nothing through which
+-- references it is written.
+pub record KeepsSink {T : Type 0} (strict : Bool) (old_faults new_faults : ℕ) (old_whole new_whole : Bool)
+    (old_lender new_lender : List ℕ) (old_before new_before : Option (List ℕ)) (result : Result T SolveFault) : Type 0 where
   pub later : old_faults ≤ new_faults
   pub cause : result ≡ Err Sink → Rose old_faults new_faults
-  pub quiet : result ≢ Err Sink → new_faults ≡ old_faults
+  pub quiet : strict ≡ true → result ≢ Err Sink → new_faults ≡ old_faults
+  pub whole : result ≢ Err Sink → new_whole ≡ old_whole
+  pub lender : new_lender ≡ old_lender
   pub before : KeepsTold old_before new_before
 
 -- So many clauses were given, before a level began: each is watched, or one of them is false.

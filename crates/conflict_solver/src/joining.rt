@@ -2,8 +2,8 @@
 
 ghost use Rattle.std.specs.Prelude.{◌≡◌, ◌≢◌, ◌<◌, ◌+◌, [], ◌∷◌, ◌++◌, length, true, false, neg_ℤ, OnOk, IfOk, IfSome, IfNone, Contains};
 ghost use Rattle.clause_base.specs.Formulas.{IsClauseWithin};
-ghost use Rattle.clause_base.specs.Literals.{is_in};
-ghost use Rattle.search_trail.specs.Trails.{IsReason, lit_at, with_clause, with_implied};
+ghost use Rattle.clause_base.specs.Literals.{is_in, lit_at};
+ghost use Rattle.search_trail.specs.Trails.{IsReason, with_clause, with_implied};
 ghost use Rattle.search_trail.specs.Learning.{IsLearnt, IsAsserting, IsJump};
 ghost use Rattle.clause_watches.specs.Watching.{AreWatched, IsConflict, with_pair};
 ghost use Rattle.conflict_solver.specs.Joining.{ListsOnly, AreFirsts, HasJoined, HasGiven, pair_at};

@@ -1,7 +1,8 @@
 //! Laws of derived lines.
 
 ghost use Rattle.std.specs.Prelude.{◌≢◌, ◌<◌, ◌^◌, ℕ, ℤ, List, [], length, All};
-ghost use Rattle.conflict_solver.specs.Deriving.{AllTeach, AllNew, IsPlain};
+ghost use Rattle.clause_base.specs.Plain.{IsPlain};
+ghost use Rattle.refutation_check.specs.Deriving.{AllTeach, AllNew};
 
 /// Lines that teach, none of them empty, are new: each has another set of literals than the clauses and the lines
 /// before it.

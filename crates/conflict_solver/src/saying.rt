@@ -18,7 +18,9 @@ pub(crate) fn say_given<P: ProofSink>(sink: &mut P, clause: &[Lit]) -> Result<()
     ensures live { OnOk result (P.live sink.new ≡ true) }
     ensures cause { result ≡ Err SolveFault.Sink → Rose (P.faults sink.old) (P.faults sink.new) }
     ensures later { P.faults sink.old ≤ P.faults sink.new }
-    ensures quiet { result ≢ Err SolveFault.Sink → P.faults sink.new ≡ P.faults sink.old }
+    ensures quiet { P.strict ≡ true → result ≢ Err SolveFault.Sink → P.faults sink.new ≡ P.faults sink.old }
+    ensures whole { result ≢ Err SolveFault.Sink → P.whole sink.new ≡ P.whole sink.old }
+    ensures lender { P.lender sink.new ≡ P.lender sink.old }
     ensures before { KeepsTold (P.before sink.old) (P.before sink.new) }
 {
     match sink.axiom(clause) {
@@ -41,7 +43,9 @@ pub(crate) fn say_derived<P: ProofSink>(
     ensures live { OnOk result (P.live sink.new ≡ true) }
     ensures cause { result ≡ Err SolveFault.Sink → Rose (P.faults sink.old) (P.faults sink.new) }
     ensures later { P.faults sink.old ≤ P.faults sink.new }
-    ensures quiet { result ≢ Err SolveFault.Sink → P.faults sink.new ≡ P.faults sink.old }
+    ensures quiet { P.strict ≡ true → result ≢ Err SolveFault.Sink → P.faults sink.new ≡ P.faults sink.old }
+    ensures whole { result ≢ Err SolveFault.Sink → P.whole sink.new ≡ P.whole sink.old }
+    ensures lender { P.lender sink.new ≡ P.lender sink.old }
     ensures before { KeepsTold (P.before sink.old) (P.before sink.new) }
 {
     match sink.derived(clause, hints) {

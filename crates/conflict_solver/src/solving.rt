@@ -39,8 +39,8 @@ struct Solver {
 /// Finds values that solve the formula, or derives the empty clause from it. It says the formula's clauses to the sink,
 /// in order, and then each clause that it derives with its hints. At most `budget` of these aren't empty: a search
 /// that wants more ends with `Undecided`. It answers `Sink` only where the sink's count of faults rose, which no other
-/// answer raises, and `NoMemory` only where no memory was found, here or by the sink. After each of these two some first
-/// clauses of the formula were said, or all of them and some derived lines.
+/// answer of a strict sink raises, and `NoMemory` only where no memory was found, here or by the sink. After each of
+/// these two some first clauses of the formula were said, or all of them and some derived lines.
 pub fn solve<P: ProofSink>(
     alloc: Global,
     formula: &Formula,
@@ -54,10 +54,12 @@ pub fn solve<P: ProofSink>(
     ensures so_far { OnErr result (IsProofSoFar formula.now budget (P.said sink.new)) }
     ensures decided { 3 ^ formula.now.vars ≤ budget → OnOk result (result ≢ Ok Verdict.Undecided) }
     ensures live { OnOk result (P.live sink.new ≡ true) }
+    ensures whole { result ≢ Err SolveFault.Sink → P.whole sink.new ≡ P.whole sink.old }
+    ensures lender { P.lender sink.new ≡ P.lender sink.old }
     ensures before { KeepsTold (P.before sink.old) (P.before sink.new) }
     ensures cause { result ≡ Err SolveFault.Sink → Rose (P.faults sink.old) (P.faults sink.new) }
     ensures later { P.faults sink.old ≤ P.faults sink.new }
-    ensures quiet { result ≢ Err SolveFault.Sink → P.faults sink.new ≡ P.faults sink.old }
+    ensures quiet { P.strict ≡ true → result ≢ Err SolveFault.Sink → P.faults sink.new ≡ P.faults sink.old }
 {
     let mut solver = begin(alloc, formula.vars(), budget)?;
     match give_all(&mut solver, formula, sink)? {
@@ -93,7 +95,8 @@ fn give_all<P: ProofSink>(
     ensures left { solver.new.left ≡ solver.old.left }
     ensures front { OnErr result (AreGiven formula.now (P.said sink.new)) }
     ensures live { OnOk result (P.live sink.new ≡ true) }
-    ensures sink { KeepsSink (P.faults sink.old) (P.faults sink.new) (P.before sink.old) (P.before sink.new) result }
+    ensures sink { KeepsSink P.strict (P.faults sink.old) (P.faults sink.new) (P.whole sink.old) (P.whole sink.new)
+        (P.lender sink.old) (P.lender sink.new) (P.before sink.old) (P.before sink.new) result }
 {
     let mut conflict = None;
     for clause in formula.clauses() {
@@ -125,7 +128,8 @@ fn refute<P: ProofSink>(
     ensures so_far { (formula : Clauses) (budget : ℕ) → IsUnderWay formula budget solver.now.left (P.said sink.old) solver.now.trail
         → OnErr result (IsProofSoFar formula budget (P.said sink.new)) }
     ensures live { OnOk result (P.live sink.new ≡ true) }
-    ensures sink { KeepsSink (P.faults sink.old) (P.faults sink.new) (P.before sink.old) (P.before sink.new) result }
+    ensures sink { KeepsSink P.strict (P.faults sink.old) (P.faults sink.new) (P.whole sink.old) (P.whole sink.new)
+        (P.lender sink.old) (P.lender sink.new) (P.before sink.old) (P.before sink.new) result }
 {
     let learnt = analyse(alloc, &solver.trail, conflict)?;
     say_derived(sink, learnt.lits.as_slice(), learnt.hints.as_slice())?;
@@ -147,7 +151,8 @@ fn search<P: ProofSink>(
     ensures answered { IfOk result (IsAnswered _formula.now solver.old.left (P.said sink.new)) }
     ensures so_far { OnErr result (IsProofSoFar _formula.now solver.old.left (P.said sink.new)) }
     ensures live { OnOk result (P.live sink.new ≡ true) }
-    ensures sink { KeepsSink (P.faults sink.old) (P.faults sink.new) (P.before sink.old) (P.before sink.new) result }
+    ensures sink { KeepsSink P.strict (P.faults sink.old) (P.faults sink.new) (P.whole sink.old) (P.whole sink.new)
+        (P.lender sink.old) (P.lender sink.new) (P.before sink.old) (P.before sink.new) result }
 {
     loop {
         if let Some(verdict) = turn(alloc, solver, sink)? {
@@ -175,7 +180,8 @@ fn turn<P: ProofSink>(
         → OnErr result (IsProofSoFar formula budget (P.said sink.new)) }
     ensures less { IfOk result (λ found. IfNone found (work_left solver.new.left solver.new.trail < work_left solver.old.left solver.old.trail)) }
     ensures live { OnOk result (P.live sink.new ≡ true) }
-    ensures sink { KeepsSink (P.faults sink.old) (P.faults sink.new) (P.before sink.old) (P.before sink.new) result }
+    ensures sink { KeepsSink P.strict (P.faults sink.old) (P.faults sink.new) (P.whole sink.old) (P.whole sink.new)
+        (P.lender sink.old) (P.lender sink.new) (P.before sink.old) (P.before sink.new) result }
 {
     let conflict = solver.watches.propagate(&mut solver.trail)?;
     let is_ground = is_ground(&solver.trail);
@@ -249,7 +255,8 @@ fn derive<P: ProofSink>(
     ensures left { OnOk result (solver.new.left + 1 ≡ solver.old.left) }
     ensures vars { OnOk result (solver.new.trail.vars ≡ solver.old.trail.vars) }
     ensures live { OnOk result (P.live sink.new ≡ true) }
-    ensures sink { KeepsSink (P.faults sink.old) (P.faults sink.new) (P.before sink.old) (P.before sink.new) result }
+    ensures sink { KeepsSink P.strict (P.faults sink.old) (P.faults sink.new) (P.whole sink.old) (P.whole sink.new)
+        (P.lender sink.old) (P.lender sink.new) (P.before sink.old) (P.before sink.new) result }
 {
     let learnt = analyse(alloc, &solver.trail, conflict)?;
     let lits = learnt.lits.as_slice();

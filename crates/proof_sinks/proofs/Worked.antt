@@ -2,9 +2,11 @@
 use Rattle.std.proofs.Common.{◌≡◌, ℕ, [], ◌∷◌, pos, true, false, None, Some, refl}
 use Rattle.std.specs.Prelude.{codes, neg_ℤ, decimal}
 use Rattle.std.specs.List.{concat}
+use Rattle.clause_base.specs.ClauseText.{given_text}
 use Rattle.refutation_check.specs.Keeping.{nothing_kept}
+use Rattle.refutation_check.specs.LineText.{derived_text}
 use Rattle.proof_sinks.specs.declared.lines.Said.TheVariants.{Axiom, Derived}
-use Rattle.proof_sinks.specs.Text.{literal_text, given_text, derived_text, line_text, text_of, without_last}
+use Rattle.proof_sinks.specs.Text.{line_text, text_of, without_last}
 use Rattle.proof_sinks.specs.Checking.{with_lines}
 use Rattle.proof_sinks.specs.Calls.{KeepsTold}
 use Rattle.proof_sinks.specs.Views.{is_open, all_faults}
@@ -18,15 +20,6 @@ empty_twice = refl
 empty_derived : (n : ℕ) → line_text n (Derived [] []) ≡ concat (codes "d " ∷ decimal n ∷ codes " 0 0\n" ∷ [])
 unfolding derived_text
 empty_derived n = refl
-
--- a variable and a negated one
-variable : literal_text (pos 5) ≡ concat (decimal 5 ∷ codes " " ∷ [])
-unfolding literal_text
-variable = refl
-
-negated : literal_text (neg_ℤ (pos 5)) ≡ concat (codes "-" ∷ decimal 5 ∷ codes " " ∷ [])
-unfolding literal_text
-negated = refl
 
 -- the formula of two variables that has no solution, and two derived lines that close the checker
 closed : (with_lines (nothing_kept 2) (Axiom (pos 1 ∷ pos 2 ∷ []) ∷ Axiom (pos 1 ∷ neg_ℤ (pos 2) ∷ []) ∷ Axiom (neg_ℤ (pos 1) ∷ pos 2 ∷ []) ∷ Axiom (neg_ℤ (pos 1) ∷ neg_ℤ (pos 2) ∷ [])

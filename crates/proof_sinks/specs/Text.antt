@@ -1,35 +1,10 @@
 -- The text of a proof: a line `f` for each clause that is given, and a line `d` for each derived one.
-use Rattle.std.specs.Prelude.{◌≡◌, ℕ, ◌+◌, ◌*◌, ◌-◌, ◌^◌, ◌≤◌, ℤ, Bool, true, List, [], ◌∷◌, ◌++◌, length, take, flat_map, decimal, codes, Option, option_map}
-use Rattle.std.specs.List.{concat}
-use Rattle.std.specs.Fmt.{signed_decimal}
+use Rattle.std.specs.Prelude.{◌≡◌, ℕ, ◌+◌, ◌*◌, ◌-◌, ◌^◌, ◌≤◌, Bool, true, List, [], ◌∷◌, ◌++◌, length, take, Option, option_map}
 use Rattle.probe_io.specs.Written.{Appends, AppendsFront}
+use Rattle.clause_base.specs.ClauseText.{given_text}
+use Rattle.refutation_check.specs.LineText.{derived_text}
 use Rattle.proof_sinks.specs.declared.lines.Said.{Said}
 use Rattle.proof_sinks.specs.declared.lines.Said.TheVariants.{Axiom, Derived}
-
--- a literal and a space
-unfoldable pub literal_text : ℤ → List ℕ
-literal_text lit = concat (signed_decimal lit ∷ codes " " ∷ [])
-
--- the literals, each followed by a space, and 0
-abbrev pub clause_text : List ℤ → List ℕ
-clause_text clause = flat_map literal_text clause ++ codes "0"
-
--- a hint and a space
-unfoldable pub hint_text : ℕ → List ℕ
-hint_text hint = concat (decimal hint ∷ codes " " ∷ [])
-
--- the hints, each followed by a space, and 0
-abbrev pub hints_text : List ℕ → List ℕ
-hints_text hints = flat_map hint_text hints ++ codes "0"
-
--- a clause that is given
-unfoldable pub given_text : List ℤ → List ℕ
-given_text clause = concat (codes "f " ∷ clause_text clause ∷ codes "\n" ∷ [])
-
--- a derived clause: its number, its literals and its hints
-unfoldable pub derived_text : ℕ → List ℤ → List ℕ → List ℕ
-derived_text number clause hints =
-    concat (codes "d " ∷ decimal number ∷ codes " " ∷ clause_text clause ∷ codes " " ∷ hints_text hints ∷ codes "\n" ∷ [])
 
 -- the line of this number
 abbrev pub line_text : ℕ → Said → List ℕ

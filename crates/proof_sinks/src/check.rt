@@ -81,11 +81,17 @@ impl StepCheck {
 }
 
 impl ProofSink for StepCheck {
+    ghost strict = { true };
+
+    ghost lender = { λ _. [] };
+
     ghost said = { λ s. s.said };
 
     ghost live = { λ s. s.live };
 
     ghost before = { λ _. None };
+
+    ghost whole = { λ _. true };
 
     ghost faults = { λ s. s.faults };
 

@@ -59,11 +59,17 @@ impl<P: ProofSink + Drop> StepFail<P> {
 }
 
 impl<P: ProofSink + Drop> ProofSink for StepFail<P> {
+    ghost strict = { P.strict };
+
+    ghost lender = { λ s. P.lender s.inner };
+
     ghost said = { λ s. P.said s.inner };
 
     ghost live = { λ s. is_open s.has_failed (P.live s.inner) };
 
     ghost before = { λ s. P.before s.inner };
+
+    ghost whole = { λ s. P.whole s.inner };
 
     ghost faults = { λ s. all_faults s.has_failed (P.faults s.inner) };
 
@@ -81,7 +87,9 @@ impl<P: ProofSink + Drop> ProofSink for StepFail<P> {
             ⊎ (P.said self.new.inner ≡ P.said self.old.inner ++ Said.Axiom clause.now ∷ []) }
         ensures cause { result ≡ Err StepFault.Failed → (self.old.left ≡ 0) ⊎ Rose (P.faults self.old.inner) (P.faults self.new.inner) }
         ensures later { P.faults self.old.inner ≤ P.faults self.new.inner }
-        ensures quiet { result ≢ Err StepFault.Failed → P.faults self.new.inner ≡ P.faults self.old.inner }
+        ensures quiet { P.strict ≡ true → result ≢ Err StepFault.Failed → P.faults self.new.inner ≡ P.faults self.old.inner }
+        ensures whole { result ≢ Err StepFault.Failed → P.whole self.new.inner ≡ P.whole self.old.inner }
+        ensures lender { P.lender self.new.inner ≡ P.lender self.old.inner }
         ensures before { KeepsTold (P.before self.old.inner) (P.before self.new.inner) }
     {
         if self.is_failing_call() {
@@ -104,7 +112,9 @@ impl<P: ProofSink + Drop> ProofSink for StepFail<P> {
             ⊎ (P.said self.new.inner ≡ P.said self.old.inner ++ Said.Derived clause.now hints.now ∷ []) }
         ensures cause { result ≡ Err StepFault.Failed → (self.old.left ≡ 0) ⊎ Rose (P.faults self.old.inner) (P.faults self.new.inner) }
         ensures later { P.faults self.old.inner ≤ P.faults self.new.inner }
-        ensures quiet { result ≢ Err StepFault.Failed → P.faults self.new.inner ≡ P.faults self.old.inner }
+        ensures quiet { P.strict ≡ true → result ≢ Err StepFault.Failed → P.faults self.new.inner ≡ P.faults self.old.inner }
+        ensures whole { result ≢ Err StepFault.Failed → P.whole self.new.inner ≡ P.whole self.old.inner }
+        ensures lender { P.lender self.new.inner ≡ P.lender self.old.inner }
         ensures before { KeepsTold (P.before self.old.inner) (P.before self.new.inner) }
     {
         if self.is_failing_call() {

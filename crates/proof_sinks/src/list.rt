@@ -45,11 +45,17 @@ impl StepList {
 }
 
 impl ProofSink for StepList {
+    ghost strict = { true };
+
+    ghost lender = { λ _. [] };
+
     ghost said = { λ s. s.said };
 
     ghost live = { λ s. s.live };
 
     ghost before = { λ _. None };
+
+    ghost whole = { λ _. true };
 
     ghost faults = { λ _. 0 };
 

@@ -58,11 +58,17 @@ impl<A: ProofSink + Drop, B: ProofSink + Drop> StepPair<A, B> {
 }
 
 impl<A: ProofSink + Drop, B: ProofSink + Drop> ProofSink for StepPair<A, B> {
+    ghost strict = { A.strict && B.strict };
+
+    ghost lender = { λ s. A.lender s.first ++ B.lender s.second };
+
     ghost said = { λ s. B.said s.second };
 
     ghost live = { λ s. A.live s.first && B.live s.second };
 
     ghost before = { λ _. None };
+
+    ghost whole = { λ s. A.whole s.first && B.whole s.second };
 
     ghost faults = { λ s. min (A.faults s.first + B.faults s.second) (2 ^ 64 - 1) };
 
@@ -82,8 +88,12 @@ impl<A: ProofSink + Drop, B: ProofSink + Drop> ProofSink for StepPair<A, B> {
             ⊎ Rose (B.faults self.old.second) (B.faults self.new.second) }
         ensures first_later { A.faults self.old.first ≤ A.faults self.new.first }
         ensures second_later { B.faults self.old.second ≤ B.faults self.new.second }
-        ensures first_quiet { result ≢ Err StepFault.Failed → A.faults self.new.first ≡ A.faults self.old.first }
-        ensures second_quiet { result ≢ Err StepFault.Failed → B.faults self.new.second ≡ B.faults self.old.second }
+        ensures first_quiet { A.strict ≡ true → result ≢ Err StepFault.Failed → A.faults self.new.first ≡ A.faults self.old.first }
+        ensures second_quiet { B.strict ≡ true → result ≢ Err StepFault.Failed → B.faults self.new.second ≡ B.faults self.old.second }
+        ensures first_whole { result ≢ Err StepFault.Failed → A.whole self.new.first ≡ A.whole self.old.first }
+        ensures second_whole { result ≢ Err StepFault.Failed → B.whole self.new.second ≡ B.whole self.old.second }
+        ensures first_lender { A.lender self.new.first ≡ A.lender self.old.first }
+        ensures second_lender { B.lender self.new.second ≡ B.lender self.old.second }
     {
         self.first.axiom(clause)?;
         self.second.axiom(clause)
@@ -105,8 +115,12 @@ impl<A: ProofSink + Drop, B: ProofSink + Drop> ProofSink for StepPair<A, B> {
             ⊎ Rose (B.faults self.old.second) (B.faults self.new.second) }
         ensures first_later { A.faults self.old.first ≤ A.faults self.new.first }
         ensures second_later { B.faults self.old.second ≤ B.faults self.new.second }
-        ensures first_quiet { result ≢ Err StepFault.Failed → A.faults self.new.first ≡ A.faults self.old.first }
-        ensures second_quiet { result ≢ Err StepFault.Failed → B.faults self.new.second ≡ B.faults self.old.second }
+        ensures first_quiet { A.strict ≡ true → result ≢ Err StepFault.Failed → A.faults self.new.first ≡ A.faults self.old.first }
+        ensures second_quiet { B.strict ≡ true → result ≢ Err StepFault.Failed → B.faults self.new.second ≡ B.faults self.old.second }
+        ensures first_whole { result ≢ Err StepFault.Failed → A.whole self.new.first ≡ A.whole self.old.first }
+        ensures second_whole { result ≢ Err StepFault.Failed → B.whole self.new.second ≡ B.whole self.old.second }
+        ensures first_lender { A.lender self.new.first ≡ A.lender self.old.first }
+        ensures second_lender { B.lender self.new.second ≡ B.lender self.old.second }
     {
         self.first.derived(clause, hints)?;
         self.second.derived(clause, hints)

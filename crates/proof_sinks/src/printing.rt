@@ -3,7 +3,8 @@
 ghost use Rattle.std.specs.Prelude.{◌≡◌, OnOk, OnErr, IfOk};
 ghost use Rattle.probe_io.specs.Causes.{HasCause};
 ghost use Rattle.probe_io.specs.Written.{Appends, AppendsFront};
-ghost use Rattle.proof_sinks.specs.Text.{literal_text, clause_text, hint_text, hints_text, given_text, derived_text};
+ghost use Rattle.clause_base.specs.ClauseText.{literal_text, clause_text, given_text};
+ghost use Rattle.refutation_check.specs.LineText.{hint_text, hints_text, derived_text};
 
 use clause_base::Lit;
 use probe_io::{Failed, MemSink, Piece, Sink, put_all, put_pieces};
@@ -14,7 +15,7 @@ use std::alloc::Global;
 pub fn put_clause<K: Sink>(sink: &mut K, clause: &[Lit]) -> Result<(), Failed>
     ensures ok { OnOk result (Appends (K.written sink.old) (K.written sink.new) (clause_text clause.now)) }
     ensures front { OnErr result (AppendsFront (K.written sink.old) (K.written sink.new) (clause_text clause.now)) }
-    ensures cause { HasCause (K.faults sink.old) (K.faults sink.new) result }
+    ensures cause { HasCause K.strict (K.faults sink.old) (K.faults sink.new) result }
 {
     for lit in clause {
         put_literal(sink, *lit)?;
@@ -23,11 +24,11 @@ pub fn put_clause<K: Sink>(sink: &mut K, clause: &[Lit]) -> Result<(), Failed>
 }
 
 /// Writes a literal and a space.
-#[tactic(auto, unfolding(crate::specs::Text::literal_text))]
+#[tactic(auto, unfolding(clause_base::specs::ClauseText::literal_text))]
 fn put_literal<K: Sink>(sink: &mut K, lit: Lit) -> Result<(), Failed>
     ensures ok { OnOk result (Appends (K.written sink.old) (K.written sink.new) (literal_text lit)) }
     ensures front { OnErr result (AppendsFront (K.written sink.old) (K.written sink.new) (literal_text lit)) }
-    ensures cause { HasCause (K.faults sink.old) (K.faults sink.new) result }
+    ensures cause { HasCause K.strict (K.faults sink.old) (K.faults sink.new) result }
 {
     put_pieces(
         sink,
@@ -39,7 +40,7 @@ fn put_literal<K: Sink>(sink: &mut K, lit: Lit) -> Result<(), Failed>
 pub fn put_given<K: Sink>(sink: &mut K, clause: &[Lit]) -> Result<(), Failed>
     ensures ok { OnOk result (Appends (K.written sink.old) (K.written sink.new) (given_text clause.now)) }
     ensures front { OnErr result (AppendsFront (K.written sink.old) (K.written sink.new) (given_text clause.now)) }
-    ensures cause { HasCause (K.faults sink.old) (K.faults sink.new) result }
+    ensures cause { HasCause K.strict (K.faults sink.old) (K.faults sink.new) result }
 {
     put_all(sink, b"f ")?;
     put_clause(sink, clause)?;
@@ -56,7 +57,7 @@ pub fn put_derived<K: Sink>(
 ) -> Result<(), Failed>
     ensures ok { OnOk result (Appends (K.written sink.old) (K.written sink.new) (derived_text number clause.now hints.now)) }
     ensures front { OnErr result (AppendsFront (K.written sink.old) (K.written sink.new) (derived_text number clause.now hints.now)) }
-    ensures cause { HasCause (K.faults sink.old) (K.faults sink.new) result }
+    ensures cause { HasCause K.strict (K.faults sink.old) (K.faults sink.new) result }
 {
     put_pieces(
         sink,
@@ -72,7 +73,7 @@ pub fn put_derived<K: Sink>(
 fn put_hints<K: Sink>(sink: &mut K, hints: &[u64]) -> Result<(), Failed>
     ensures ok { OnOk result (Appends (K.written sink.old) (K.written sink.new) (hints_text hints.now)) }
     ensures front { OnErr result (AppendsFront (K.written sink.old) (K.written sink.new) (hints_text hints.now)) }
-    ensures cause { HasCause (K.faults sink.old) (K.faults sink.new) result }
+    ensures cause { HasCause K.strict (K.faults sink.old) (K.faults sink.new) result }
 {
     for hint in hints {
         put_hint(sink, *hint)?;
@@ -81,11 +82,11 @@ fn put_hints<K: Sink>(sink: &mut K, hints: &[u64]) -> Result<(), Failed>
 }
 
 /// Writes a hint and a space.
-#[tactic(auto, unfolding(crate::specs::Text::hint_text))]
+#[tactic(auto, unfolding(refutation_check::specs::LineText::hint_text))]
 fn put_hint<K: Sink>(sink: &mut K, hint: u64) -> Result<(), Failed>
     ensures ok { OnOk result (Appends (K.written sink.old) (K.written sink.new) (hint_text hint)) }
     ensures front { OnErr result (AppendsFront (K.written sink.old) (K.written sink.new) (hint_text hint)) }
-    ensures cause { HasCause (K.faults sink.old) (K.faults sink.new) result }
+    ensures cause { HasCause K.strict (K.faults sink.old) (K.faults sink.new) result }
 {
     put_pieces(sink, &[Piece::Number(hint), Piece::Text(b" ")])
 }

@@ -23,14 +23,23 @@ pub enum StepFault {
 /// What takes the lines of a proof.
 ///
 /// `said` are the lines so far. `live` tells whether another one may be said: until the first error. `before` is the
-/// text that stood before the first line, where the sink tells it. `faults` counts failed calls: it never falls, and a
-/// call that doesn't answer `Failed` leaves it as it was.
+/// text that stood before the first line, where the sink tells it. `whole` tells whether all of the text of the lines
+/// is written; only `Failed` changes it. `faults` counts failed calls and never falls. `strict` tells whether every
+/// failure is passed on: a call of a strict sink that doesn't answer `Failed` leaves the count as it was. `lender` names
+/// the references that the text is written through, so that what was said to a printer over a borrowed sink of text is
+/// known of the sink that was lent; no call changes it.
 pub trait ProofSink {
+    ghost strict: { Bool };
+
+    ghost lender: { Self → List ℕ };
+
     ghost said: { Self → List Said };
 
     ghost live: { Self → Bool };
 
     ghost before: { Self → Option (List ℕ) };
+
+    ghost whole: { Self → Bool };
 
     ghost faults: { Self → ℕ };
 
@@ -47,7 +56,9 @@ pub trait ProofSink {
 
         ensures cause { result ≡ Err StepFault.Failed → Rose (faults self.old) (faults self.new) }
         ensures later { faults self.old ≤ faults self.new }
-        ensures quiet { result ≢ Err StepFault.Failed → faults self.new ≡ faults self.old }
+        ensures quiet { strict ≡ true → result ≢ Err StepFault.Failed → faults self.new ≡ faults self.old }
+        ensures whole { result ≢ Err StepFault.Failed → whole self.new ≡ whole self.old }
+        ensures lender { lender self.new ≡ lender self.old }
         ensures before { KeepsTold (before self.old) (before self.new) };
 
     /// Says that this clause follows by these hints. After `NoMemory` nothing more is said, after `Failed` nothing or
@@ -64,17 +75,25 @@ pub trait ProofSink {
 
         ensures cause { result ≡ Err StepFault.Failed → Rose (faults self.old) (faults self.new) }
         ensures later { faults self.old ≤ faults self.new }
-        ensures quiet { result ≢ Err StepFault.Failed → faults self.new ≡ faults self.old }
+        ensures quiet { strict ≡ true → result ≢ Err StepFault.Failed → faults self.new ≡ faults self.old }
+        ensures whole { result ≢ Err StepFault.Failed → whole self.new ≡ whole self.old }
+        ensures lender { lender self.new ≡ lender self.old }
         ensures before { KeepsTold (before self.old) (before self.new) };
 }
 
 /// A borrowed sink is that sink.
 impl<P: ProofSink> ProofSink for &mut P {
+    ghost strict = { P.strict };
+
+    ghost lender = { λ s. s.ghost_name ∷ P.lender s.now };
+
     ghost said = { λ s. P.said s.now };
 
     ghost live = { λ s. P.live s.now };
 
     ghost before = { λ s. P.before s.now };
+
+    ghost whole = { λ s. P.whole s.now };
 
     ghost faults = { λ s. P.faults s.now };
 

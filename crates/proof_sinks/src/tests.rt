@@ -108,6 +108,26 @@ fn a_front_is_printed_where_the_sink_fails(rt: HostRuntime) -> Result<(), Fail> 
     Ok(())
 }
 
+/// What the failed write of a line leaves: the lines before it.
+#[test]
+fn a_line_is_one_write(rt: HostRuntime) -> Result<(), Fail> {
+    let alloc = rt.alloc();
+    let lines = two_variables(alloc)?;
+    let ends = [0, 8, 17, 26, 36, 50, 64];
+    for (call, end) in ends.iter().enumerate() {
+        let sink = MemSink::new(alloc, vec![in alloc; call as u64]?, usize::MAX);
+        let mut text = StepText::new(alloc, sink);
+        let want = if call < 6 {
+            Err(StepFault::Failed)
+        } else {
+            Ok(())
+        };
+        assert_eq!(rt; say(&mut text, &lines), want, "call {call}");
+        assert_eq!(rt; text.into_sink().bytes(), &TEXT[..*end], "call {call}");
+    }
+    Ok(())
+}
+
 #[test]
 fn a_checker_takes_what_follows(rt: HostRuntime) -> Result<(), Fail> {
     let alloc = rt.alloc();

@@ -3,9 +3,11 @@
 ghost use Rattle.std.specs.Prelude.{◌≡◌, ◌≢◌, ◌<◌, ◌≤◌, ◌+◌, ◌^◌, true, false, [], ◌∷◌, ◌++◌, length, Ok, Err, OnOk, OnErr, IfOk};
 ghost use Rattle.probe_io.specs.Causes.{Rose, HasCause};
 ghost use Rattle.probe_io.specs.Written.{Appends, AppendsFront};
+ghost use Rattle.clause_base.specs.ClauseText.{given_text};
+ghost use Rattle.refutation_check.specs.LineText.{derived_text};
 ghost use Rattle.proof_sinks.specs.Calls.{KeepsTold};
 ghost use Rattle.proof_sinks.specs.Sending.{SendsFront};
-ghost use Rattle.proof_sinks.specs.Text.{given_text, derived_text, text_of, without_last};
+ghost use Rattle.proof_sinks.specs.Text.{text_of, without_last};
 ghost use Rattle.proof_sinks.specs.declared.lines.Said.{Said};
 
 use crate::lines::Said;
@@ -48,6 +50,7 @@ impl<K: Sink + Drop> StepText<K> {
         ensures sent { result.sent ≡ 0 }
         ensures said { result.said ≡ [] }
         ensures live { result.live ≡ true }
+        ensures whole { result.whole ≡ true }
         ensures before { without_last result.sent (K.written result.sink) ≡ K.written sink }
     {
         StepText {
@@ -72,11 +75,17 @@ impl<K: Sink + Drop> StepText<K> {
 }
 
 impl<K: Sink + Drop> ProofSink for StepText<K> {
+    ghost strict = { K.strict };
+
+    ghost lender = { λ s. K.lender s.sink };
+
     ghost said = { λ s. s.said };
 
     ghost live = { λ s. s.live };
 
     ghost before = { λ s. without_last s.sent (K.written s.sink) };
+
+    ghost whole = { λ s. s.whole };
 
     ghost faults = { λ s. K.faults s.sink };
 
@@ -93,10 +102,12 @@ impl<K: Sink + Drop> ProofSink for StepText<K> {
         ensures stays { result ≡ Err StepFault.NoMemory → self.new.said ≡ self.old.said }
         ensures live { OnOk result (self.new.live ≡ true) }
         ensures dead { OnErr result (self.new.live ≡ false) }
-        ensures whole { result ≡ Err StepFault.NoMemory → self.new.whole ≡ true }
+        ensures whole { result ≢ Err StepFault.Failed → self.new.whole ≡ self.old.whole }
+        ensures untorn { result ≢ Err StepFault.Failed → self.new.whole ≡ true }
         ensures cause { result ≡ Err StepFault.Failed → Rose (K.faults self.old.sink) (K.faults self.new.sink) }
         ensures later { K.faults self.old.sink ≤ K.faults self.new.sink }
-        ensures quiet { result ≢ Err StepFault.Failed → K.faults self.new.sink ≡ K.faults self.old.sink }
+        ensures quiet { K.strict ≡ true → result ≢ Err StepFault.Failed → K.faults self.new.sink ≡ K.faults self.old.sink }
+        ensures lender { K.lender self.new.sink ≡ K.lender self.old.sink }
         ensures before { KeepsTold (without_last self.old.sent (K.written self.old.sink))
             (without_last self.new.sent (K.written self.new.sink)) }
     {
@@ -126,10 +137,12 @@ impl<K: Sink + Drop> ProofSink for StepText<K> {
         ensures stays { result ≡ Err StepFault.NoMemory → self.new.said ≡ self.old.said }
         ensures live { OnOk result (self.new.live ≡ true) }
         ensures dead { OnErr result (self.new.live ≡ false) }
-        ensures whole { result ≡ Err StepFault.NoMemory → self.new.whole ≡ true }
+        ensures whole { result ≢ Err StepFault.Failed → self.new.whole ≡ self.old.whole }
+        ensures untorn { result ≢ Err StepFault.Failed → self.new.whole ≡ true }
         ensures cause { result ≡ Err StepFault.Failed → Rose (K.faults self.old.sink) (K.faults self.new.sink) }
         ensures later { K.faults self.old.sink ≤ K.faults self.new.sink }
-        ensures quiet { result ≢ Err StepFault.Failed → K.faults self.new.sink ≡ K.faults self.old.sink }
+        ensures quiet { K.strict ≡ true → result ≢ Err StepFault.Failed → K.faults self.new.sink ≡ K.faults self.old.sink }
+        ensures lender { K.lender self.new.sink ≡ K.lender self.old.sink }
         ensures before { KeepsTold (without_last self.old.sent (K.written self.old.sink))
             (without_last self.new.sent (K.written self.new.sink)) }
     {
@@ -178,7 +191,8 @@ fn send<K: Sink>(sink: &mut K, sent: &mut u128, bytes: &[u8]) -> Result<(), Fail
     ensures ok { OnOk result (Appends (K.written sink.old) (K.written sink.new) bytes.now) }
     ensures all { OnOk result (sent.new ≡ sent.old + length bytes.now) }
     ensures front { OnErr result (SendsFront (K.written sink.old) (K.written sink.new) bytes.now sent.old sent.new) }
-    ensures cause { HasCause (K.faults sink.old) (K.faults sink.new) result }
+    ensures cause { HasCause K.strict (K.faults sink.old) (K.faults sink.new) result }
+    ensures lender { K.lender sink.new ≡ K.lender sink.old }
 {
     let mut done = 0;
     while done < bytes.len() {

@@ -84,6 +84,13 @@ impl Checker {
         Ok(())
     }
 
+    /// The clauses that are kept, in their order.
+    pub fn clauses(&self) -> &Store
+        ensures { result.now ≡ self.now.clauses }
+    {
+        &self.store
+    }
+
     /// Whether an empty clause was derived. Then no values solve the given clauses.
     pub fn closed(&self) -> bool
         ensures closed { result ≡ self.now.closed }

@@ -17,7 +17,10 @@ mod marks;
 
 pub use checker::Checker;
 pub use hints::StepRefusal;
-pub use laws::{derivation_refutes, following_is_true, one_fault};
+pub use laws::{
+    accepted_lines_are_a_derivation, derivation_grows, derivation_refutes, following_is_true,
+    one_fault,
+};
 
 #[cfg(test)]
 mod tests;

@@ -77,5 +77,6 @@ fn an_empty_step_closes(rt: HostRuntime) -> Result<(), Fail> {
         Some(Ok(()))
     );
     assert!(rt; checker.closed());
+    assert_eq!(rt; checker.clauses().len(), 6);
     Ok(())
 }

@@ -7,12 +7,13 @@ use Rattle.std.proofs.lemmas.Bool.Decides.{nat_tests}
 use Rattle.std.proofs.lemmas.List.{length_push, length-take, length-take-le, take_all, take-take, take-append-le, take_at, get_or-take, get_or_past, get_or_append_left, get_or_push, get_or_default}
 use Rattle.std.proofs.lemmas.List.Elements.{All-contains, All-push, All-take, Contains-append_left, Contains-push, Contains-push_cases}
 use Rattle.std.proofs.Math.IntN.{neg_ℤ-neg_ℤ}
-use Rattle.clause_base.specs.Literals.{is_in, IsLiteral}
+use Rattle.clause_base.specs.Literals.{is_in, IsLiteral, lit_at}
 use Rattle.clause_base.specs.Formulas.{IsClauseWithin}
 use Rattle.clause_base.specs.Teaching.{AllButNegated}
+use Rattle.clause_base.specs.Plain.{IsOnce}
 use Rattle.clause_base.proofs.LiteralLemmas.{no_both, contains_in, in_contains}
 use Rattle.refutation_check.specs.Following.{numbered}
-use Rattle.search_trail.specs.Trails.{lit_at, reason_at, start_at, IsOnce, IsReason, AreStarts, IsTrail}
+use Rattle.search_trail.specs.Trails.{reason_at, start_at, IsReason, AreStarts, IsTrail}
 use Rattle.search_trail.proofs.Members.{by_push, lit_before, lit_new, not_at, in_taken, start_before, start_new}
 
 -- ---- a clause more

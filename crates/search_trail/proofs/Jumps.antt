@@ -4,11 +4,11 @@ use Rattle.std.specs.List.{Contains}
 use Rattle.std.proofs.lemmas.Bool.{cases_lt}
 use Rattle.std.proofs.lemmas.List.{length_push, get_or_push, get_or_default}
 use Rattle.std.proofs.lemmas.List.Elements.{Contains-get_or}
-use Rattle.clause_base.specs.Literals.{is_in}
+use Rattle.clause_base.specs.Literals.{is_in, lit_at}
 use Rattle.clause_base.specs.Teaching.{AllButNegated}
 use Rattle.clause_base.proofs.LiteralLemmas.{by_test, no_both, in_contains}
 use Rattle.refutation_check.specs.Following.{numbered}
-use Rattle.search_trail.specs.Trails.{Search, IsSearch, IsReason, lit_at, front, front_size}
+use Rattle.search_trail.specs.Trails.{Search, IsSearch, IsReason, front, front_size}
 use Rattle.search_trail.specs.Learning.{IsLearnt, IsAsserting, IsJump}
 use Rattle.search_trail.proofs.Members.{in_taken, in_further}
 

@@ -4,9 +4,9 @@ use Rattle.std.specs.Ordering.{int_eq}
 use Rattle.std.proofs.lemmas.Bool.{cases_lt}
 use Rattle.std.proofs.lemmas.List.{get_or-take, length-take-le, take_all, get_or_append_left, get_or_push, length_push, get_or_default}
 use Rattle.std.proofs.lemmas.List.Folds.{Any-from_list_any, list_any_at}
-use Rattle.clause_base.specs.Literals.{is_in}
+use Rattle.clause_base.specs.Literals.{is_in, lit_at}
 use Rattle.clause_base.proofs.LiteralLemmas.{by_test, no_both, same_lit, same_test}
-use Rattle.search_trail.specs.Trails.{lit_at, start_at}
+use Rattle.search_trail.specs.Trails.{start_at}
 
 -- where a literal of a list stands
 pub record IsAt (lits : List ℤ) (l : ℤ) : Type 0 where

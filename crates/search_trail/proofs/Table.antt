@@ -6,10 +6,9 @@ use Rattle.std.proofs.lemmas.Bool.{cases_lt}
 use Rattle.std.proofs.lemmas.Bool.Decides.{nat_tests}
 use Rattle.std.proofs.lemmas.List.{length_push, length-set, get_or-take, get_or_past, take_at, take-append-le}
 use Rattle.std.proofs.lemmas.List.Sums.{sum_by-set}
-use Rattle.clause_base.specs.Literals.{is_in}
+use Rattle.clause_base.specs.Literals.{is_in, lit_at}
 use Rattle.clause_base.specs.Literals.{code_of}
 use Rattle.clause_base.proofs.LiteralLemmas.{by_test, same_lit, same_test, differ}
-use Rattle.search_trail.specs.Trails.{lit_at}
 use Rattle.search_trail.specs.Placing.{rank, free, IsPlaced}
 use Rattle.search_trail.proofs.Members.{by_push, lit_before, lit_new, not_at, not_in}
 

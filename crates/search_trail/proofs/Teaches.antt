@@ -5,12 +5,12 @@ use Rattle.std.proofs.Math.IntN.{neg_ℤ-neg_ℤ}
 use Rattle.std.proofs.lemmas.Bool.{cases_lt}
 use Rattle.std.proofs.lemmas.List.{length-map, get_or-map, get_or_default}
 use Rattle.std.proofs.lemmas.List.Elements.{Contains-get_or}
-use Rattle.clause_base.specs.Literals.{is_in}
+use Rattle.clause_base.specs.Literals.{is_in, lit_at}
 use Rattle.clause_base.specs.Teaching.{AllButNegated, IsConsistent, IsPropagated, IsClosed, Teaches}
 use Rattle.clause_base.proofs.LiteralLemmas.{by_test, no_both, same_lit, in_contains, contains_in}
 use Rattle.refutation_check.specs.Following.{IsNumber, numbered, IsUnit, joined, Runs, Follows}
 use Rattle.refutation_check.proofs.Soundness.{by_either}
-use Rattle.search_trail.specs.Trails.{Search, IsSearch, lit_at, start_at, front, front_size}
+use Rattle.search_trail.specs.Trails.{Search, IsSearch, start_at, front, front_size}
 use Rattle.search_trail.specs.Walking.{IsWalk, falses}
 use Rattle.search_trail.specs.Learning.{below, IsLearnt, IsAsserting, IsJump, IsDoneBelow}
 use Rattle.search_trail.proofs.Members.{in_from, in_at, in_taken, at_take, not_before}

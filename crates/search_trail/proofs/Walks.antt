@@ -7,12 +7,13 @@ use Rattle.std.proofs.lemmas.Int.{ints}
 use Rattle.std.proofs.lemmas.Bool.{cases_lt}
 use Rattle.std.proofs.lemmas.Bool.Decides.{nat_tests}
 use Rattle.std.proofs.lemmas.List.{length_push, reverse-append, get_or_default, get_or-set_same}
-use Rattle.clause_base.specs.Literals.{is_in}
+use Rattle.clause_base.specs.Literals.{is_in, lit_at}
+use Rattle.clause_base.specs.Plain.{IsOnce}
 use Rattle.clause_base.proofs.LiteralLemmas.{by_test, no_both, same_lit, in_contains}
 use Rattle.refutation_check.specs.Following.{IsNumber, numbered, IsUnit, joined, Runs}
 use Rattle.refutation_check.proofs.Soundness.{by_either}
 use Rattle.refutation_check.proofs.Leading.{leads_runs}
-use Rattle.search_trail.specs.Trails.{Search, lit_at, start_at, IsOnce, IsReason, AreStarts}
+use Rattle.search_trail.specs.Trails.{Search, start_at, IsReason, AreStarts}
 use Rattle.search_trail.specs.Walking.{is_seen, MayStay, IsWalk}
 use Rattle.search_trail.proofs.Members.{in_from, in_at, take_at, by_push, start_before, start_new}
 

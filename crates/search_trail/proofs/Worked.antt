@@ -4,7 +4,7 @@ use Rattle.clause_base.specs.Literals.{is_in}
 use Rattle.clause_base.specs.Teaching.{AllButNegated, IsPropagated}
 use Rattle.clause_base.proofs.LiteralLemmas.{no_both, differ}
 use Rattle.clause_base.proofs.Instances.{all, apart_by, propagated_by_two}
-use Rattle.search_trail.specs.Trails.{Search, IsOnce, IsReason, AreStarts, lit_at, reason_at, start_at, front, nothing_known, with_clause, with_decision, with_implied, back_at}
+use Rattle.search_trail.specs.Trails.{Search, IsReason, AreStarts, reason_at, start_at, front, nothing_known, with_clause, with_decision, with_implied, back_at}
 use Rattle.search_trail.specs.Learning.{IsLearnt, IsAsserting, IsJump, IsDoneBelow}
 
 -- (1 2) and (1 -2); -1 is decided, so 2 follows by the first, and the second is false
@@ -46,23 +46,6 @@ unfolding known decided failed
 nothing_taken_back = refl
 
 -- ---- lists and reasons
-
-once : IsOnce (negsuc 0 ∷ pos 2 ∷ [])
-once = record { once = places; apart = apart_by (negsuc 0 ∷ pos 2 ∷ []) refl } where
-  places : (p q : ℕ) → p < 2 → q < 2 → lit_at (negsuc 0 ∷ pos 2 ∷ []) p ≡ lit_at (negsuc 0 ∷ pos 2 ∷ []) q → p ≡ q
-  places zero zero pl ql same = refl
-  places zero (suc zero) pl ql same = absurd (differ (negsuc 0) (pos 2) refl same)
-  places zero (suc (suc q)) pl ql same = absurd (omega (arith, ql))
-  places (suc zero) zero pl ql same = absurd (differ (pos 2) (negsuc 0) refl same)
-  places (suc zero) (suc zero) pl ql same = refl
-  places (suc zero) (suc (suc q)) pl ql same = absurd (omega (arith, ql))
-  places (suc (suc p)) q pl ql same = absurd (omega (arith, pl))
-
-twice : IsOnce (pos 2 ∷ pos 2 ∷ []) → ⊥
-twice o = omega (arith, o.once 0 1 (omega arith) (omega arith) refl)
-
-beside_negation : IsOnce (pos 2 ∷ negsuc 1 ∷ []) → ⊥
-beside_negation o = o.apart.apart (pos 2) (0, omega arith, refl) (1, omega arith, refl)
 
 second_follows : IsReason failed.clauses (negsuc 0 ∷ []) (pos 2) 1
 unfolding known decided failed

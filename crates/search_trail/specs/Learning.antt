@@ -1,8 +1,9 @@
 -- The clause that is learnt from a conflict.
 use Rattle.std.specs.Prelude.{◌≡◌, ℕ, ◌-◌, ◌<◌, ◌≤◌, ℤ, neg_ℤ, true, false, List, length, All}
-use Rattle.clause_base.specs.Literals.{is_in}
+use Rattle.clause_base.specs.Literals.{is_in, lit_at}
 use Rattle.clause_base.specs.Teaching.{AllButNegated, IsClosed}
-use Rattle.search_trail.specs.Trails.{Search, IsOnce, lit_at, front}
+use Rattle.clause_base.specs.Plain.{IsOnce}
+use Rattle.search_trail.specs.Trails.{Search, front}
 
 -- The literals below the current level, where a level above 0 has begun; on level 0, which has none below it, those of
 -- level 0 itself.

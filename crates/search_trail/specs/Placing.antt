@@ -1,8 +1,7 @@
 -- A table that tells where each literal stands on the trail.
 use Rattle.std.specs.Prelude.{◌≡◌, ℕ, ◌+◌, ◌*◌, ◌-◌, ◌<◌, ◌≤◌, ℤ, List, length, nat_eq, slice_index_or, if◌then◌else◌}
 use Rattle.std.specs.List.{sum_by}
-use Rattle.clause_base.specs.Literals.{code_of}
-use Rattle.search_trail.specs.Trails.{lit_at}
+use Rattle.clause_base.specs.Literals.{code_of, lit_at}
 
 -- the literals in their order
 pub record Placed : Type 0 where

@@ -1,8 +1,8 @@
 -- The trail of a search: the literals that are taken to be true, in their order. Clauses count from 1.
-use Rattle.std.specs.Prelude.{◌≡◌, ℕ, ◌<◌, ℤ, pos, Option, Some, None, List, [], ◌∷◌, ◌++◌, length, take, slice_index_or, All, Contains}
-use Rattle.clause_base.specs.Literals.{is_in}
+use Rattle.std.specs.Prelude.{◌≡◌, ℕ, ◌<◌, ℤ, Option, Some, None, List, [], ◌∷◌, ◌++◌, length, take, slice_index_or, All, Contains}
+use Rattle.clause_base.specs.Literals.{is_in, lit_at}
 use Rattle.clause_base.specs.Formulas.{IsClauseWithin}
-use Rattle.clause_base.specs.Novelty.{IsApart}
+use Rattle.clause_base.specs.Plain.{IsOnce}
 use Rattle.clause_base.specs.Teaching.{AllButNegated}
 use Rattle.refutation_check.specs.Following.{IsNumber, numbered}
 
@@ -15,10 +15,6 @@ pub record Search : Type 0 where
   pub reasons : List (Option ℕ)
   pub starts : List ℕ
 
--- the literal at this place
-abbrev pub lit_at : List ℤ → ℕ → ℤ
-lit_at lits place = slice_index_or lits place (pos 0)
-
 -- what made the literal at this place true
 abbrev pub reason_at : List (Option ℕ) → ℕ → Option ℕ
 reason_at reasons place = slice_index_or reasons place None
@@ -26,11 +22,6 @@ reason_at reasons place = slice_index_or reasons place None
 -- where this level begins
 abbrev pub start_at : List ℕ → ℕ → ℕ
 start_at starts level = slice_index_or starts level 0
-
--- no literal twice, and none beside its negation
-pub record IsOnce (lits : List ℤ) : Type 0 where
-  pub once : (p q : ℕ) → p < length lits → q < length lits → lit_at lits p ≡ lit_at lits q → p ≡ q
-  pub apart : IsApart lits
 
 -- The clause of this number has the literal, and the negation of each other literal is on the trail before it.
 pub record IsReason (clauses : List (List ℤ)) (before : List ℤ) (lit : ℤ) (number : ℕ) : Type 0 where

@@ -1,8 +1,8 @@
 -- The walk down the trail from a conflict.
 use Rattle.std.specs.Prelude.{◌≡◌, ℕ, ◌-◌, ◌<◌, ◌≤◌, ℤ, neg_ℤ, Bool, true, false, List, length, map, reverse, slice_index_or}
-use Rattle.clause_base.specs.Literals.{is_in}
+use Rattle.clause_base.specs.Literals.{is_in, lit_at}
 use Rattle.refutation_check.specs.Following.{Runs}
-use Rattle.search_trail.specs.Trails.{Search, lit_at, start_at}
+use Rattle.search_trail.specs.Trails.{Search, start_at}
 
 -- whether the place is marked
 abbrev pub is_seen : List Bool → ℕ → Bool

@@ -1,8 +1,8 @@
 //! Laws of learnt clauses.
 
 ghost use Rattle.std.specs.Prelude.{◌≡◌, ◌<◌, ◌+◌, ℕ, ℤ, neg_ℤ, false, List, [], ◌∷◌, ◌++◌, length};
-ghost use Rattle.clause_base.specs.Literals.{is_in};
-ghost use Rattle.search_trail.specs.Trails.{Search, IsSearch, IsReason, lit_at, front};
+ghost use Rattle.clause_base.specs.Literals.{is_in, lit_at};
+ghost use Rattle.search_trail.specs.Trails.{Search, IsSearch, IsReason, front};
 ghost use Rattle.search_trail.specs.Learning.{IsLearnt, IsAsserting, IsJump};
 
 /// A learnt clause, added as the last one, makes its first literal true once the levels above that of the jump were

@@ -2,8 +2,7 @@
 
 ghost use Rattle.std.specs.Prelude.{◌≡◌, ◌<◌, ◌≤◌, ◌+◌, ◌*◌, ℕ, ℤ, [], ◌∷◌, ◌++◌, take, set, length, false, true, neg_ℤ, nat_abs, slice_index_or, if◌then◌else◌, OnOk, OnErr, IfOk, IfSome, IfNone, Contains};
 ghost use Rattle.std.specs.Ordering.{int_eq};
-ghost use Rattle.clause_base.specs.Literals.{is_in, IsLiteral, code_of};
-ghost use Rattle.search_trail.specs.Trails.{lit_at};
+ghost use Rattle.clause_base.specs.Literals.{is_in, IsLiteral, code_of, lit_at};
 ghost use Rattle.search_trail.specs.Placing.{rank, IsPlaced};
 
 use clause_base::Lit;

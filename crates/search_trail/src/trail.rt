@@ -1,10 +1,11 @@
 //! The trail of a search.
 
 ghost use Rattle.std.specs.Prelude.{◌≡◌, ◌<◌, ◌≤◌, ◌+◌, ◌*◌, ℕ, ℤ, Some, None, [], ◌∷◌, ◌++◌, take, length, slice_index_or, false, true, neg_ℤ, nat_abs, OnOk, OnErr, IfOk, IfSome, IfNone, Contains};
-ghost use Rattle.clause_base.specs.Literals.{is_in, IsLiteral};
+ghost use Rattle.clause_base.specs.Literals.{is_in, IsLiteral, lit_at};
 ghost use Rattle.clause_base.specs.Formulas.{IsClauseWithin};
+ghost use Rattle.clause_base.specs.Plain.{IsOnce};
 ghost use Rattle.refutation_check.specs.Following.{IsNumber, numbered};
-ghost use Rattle.search_trail.specs.Trails.{AreStarts, IsOnce, IsReason, IsSearch, lit_at, reason_at, start_at, nothing_known, with_clause, with_decision, with_implied, back_at};
+ghost use Rattle.search_trail.specs.Trails.{AreStarts, IsReason, IsSearch, reason_at, start_at, nothing_known, with_clause, with_decision, with_implied, back_at};
 
 use crate::places::Places;
 use clause_arena::Store;

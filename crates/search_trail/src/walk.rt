@@ -2,9 +2,9 @@
 //! its place.
 
 ghost use Rattle.std.specs.Prelude.{◌≡◌, ◌<◌, ◌≤◌, ◌+◌, ◌-◌, ℕ, ℤ, take, length, true, false, neg_ℤ, OnOk, IfOk, IfSome, IfNone, All};
-ghost use Rattle.clause_base.specs.Literals.{is_in};
+ghost use Rattle.clause_base.specs.Literals.{is_in, lit_at};
 ghost use Rattle.refutation_check.specs.Following.{IsNumber, numbered};
-ghost use Rattle.search_trail.specs.Trails.{IsReason, IsSearch, lit_at, start_at};
+ghost use Rattle.search_trail.specs.Trails.{IsReason, IsSearch, start_at};
 ghost use Rattle.search_trail.specs.Walking.{is_seen, MayStay, IsWalk};
 
 use crate::trail::Trail;

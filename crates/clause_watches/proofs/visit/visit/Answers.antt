@@ -1,6 +1,6 @@
 use Rattle.std.proofs.Common.{◌≡◌, ◌+◌, ◌-◌, neg_ℤ, Some, set, sym, ap, ◌∙◌, subst, arith}
+use Rattle.clause_base.specs.Literals.{lit_at}
 use Rattle.refutation_check.specs.Following.{IsNumber, numbered}
-use Rattle.search_trail.specs.Trails.{lit_at}
 use Rattle.clause_watches.specs.Listing.{pair_of, IsOther}
 use Rattle.clause_watches.specs.Watching.{HasGrown}
 use Rattle.clause_watches.specs.Visiting.{IsVisit, IsReplacement, IsSole}

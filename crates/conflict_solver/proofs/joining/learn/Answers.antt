@@ -1,8 +1,8 @@
 use Rattle.std.proofs.Common.{◌≡◌, ◌+◌, neg_ℤ, false, [], ◌∷◌, ◌++◌, length, sym, ap, ◌∙◌, subst}
 use Rattle.std.proofs.lemmas.Result.{on_ok_weaker}
-use Rattle.clause_base.specs.Literals.{is_in}
+use Rattle.clause_base.specs.Literals.{is_in, lit_at}
 use Rattle.clause_base.specs.Formulas.{IsClauseWithin}
-use Rattle.search_trail.specs.Trails.{IsReason, lit_at, with_implied, with_clause}
+use Rattle.search_trail.specs.Trails.{IsReason, with_implied, with_clause}
 use Rattle.search_trail.proofs.Jumps.{reason, unset}
 use Rattle.conflict_solver.proofs.Joins.{small, out_negated, learnt_joined, learnt_kept, on_both}
 use Rattle.conflict_solver.proofs.joining.learn.Goals as goal

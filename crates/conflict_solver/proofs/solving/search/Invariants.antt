@@ -1,4 +1,4 @@
-use Rattle.std.proofs.Common.{◌≡◌, true}
+use Rattle.std.proofs.Common.{◌≡◌, ◌≤◌, true}
 use Rattle.proof_sinks.specs.Calls.{KeepsTold}
 use Rattle.clause_watches.specs.Watching.{AreWatched}
 use Rattle.conflict_solver.specs.Running.{IsUnderWay, work_left}
@@ -9,7 +9,10 @@ invariant-loop-verdict g l = record {
   live : g.P.ProofSink.live l.sink ≡ true;
   kept : AreWatched l.solver.trail l.solver.watches;
   under_way : IsUnderWay l._formula l.fn.solver.left l.solver.left (g.P.ProofSink.said l.sink) l.solver.trail;
-  quiet : g.P.ProofSink.faults l.sink ≡ g.P.ProofSink.faults l.fn.sink;
+  later : g.P.ProofSink.faults l.fn.sink ≤ g.P.ProofSink.faults l.sink;
+  quiet : g.P.ProofSink.strict ≡ true → g.P.ProofSink.faults l.sink ≡ g.P.ProofSink.faults l.fn.sink;
+  whole : g.P.ProofSink.whole l.sink ≡ g.P.ProofSink.whole l.fn.sink;
+  lender : g.P.ProofSink.lender l.sink ≡ g.P.ProofSink.lender l.fn.sink;
   before : KeepsTold (g.P.ProofSink.before l.fn.sink) (g.P.ProofSink.before l.sink);
 }
 

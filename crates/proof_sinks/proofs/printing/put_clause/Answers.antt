@@ -1,6 +1,6 @@
 use Rattle.std.proofs.Common.{arith}
 use Rattle.probe_io.proofs.CauseLemmas.{on_err}
-use Rattle.proof_sinks.specs.Text.{literal_text}
+use Rattle.clause_base.specs.ClauseText.{literal_text}
 use Rattle.proof_sinks.proofs.Printed.{front_item, ok_items, err_items}
 use Rattle.proof_sinks.proofs.printing.put_clause.Goals as goal
 

@@ -1,8 +1,9 @@
 use Rattle.std.proofs.Common.{[], ◌∷◌, ◌++◌}
 use Rattle.std.specs.Prelude.{codes, decimal}
 use Rattle.probe_io.proofs.CauseLemmas.{on_err}
-use Rattle.proof_sinks.specs.Text.{derived_text, clause_text, hints_text}
 use Rattle.probe_io.proofs.Texts.{pieces_begin, pieces_more, pieces_front, ok_piece, err_piece}
+use Rattle.clause_base.specs.ClauseText.{clause_text}
+use Rattle.refutation_check.specs.LineText.{derived_text, hints_text}
 use Rattle.proof_sinks.proofs.printing.put_derived.Goals as goal
 
 pub returns-in_err-put_pieces-clause-front : goal.returns-in_err-put_pieces-clause-front

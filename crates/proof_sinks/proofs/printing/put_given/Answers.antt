@@ -2,7 +2,7 @@ use Rattle.std.proofs.Common.{[], ◌∷◌}
 use Rattle.std.specs.Prelude.{codes}
 use Rattle.probe_io.proofs.CauseLemmas.{on_err}
 use Rattle.probe_io.proofs.Texts.{pieces_begin, pieces_more, pieces_front, ok_piece, err_piece}
-use Rattle.proof_sinks.specs.Text.{given_text, clause_text}
+use Rattle.clause_base.specs.ClauseText.{given_text, clause_text}
 use Rattle.proof_sinks.proofs.printing.put_given.Goals as goal
 
 pub returns-in_err-put_all-clause-front : goal.returns-in_err-put_all-clause-front

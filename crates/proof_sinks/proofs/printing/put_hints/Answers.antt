@@ -3,7 +3,7 @@ use Rattle.std.specs.Prelude.{codes}
 use Rattle.probe_io.proofs.CauseLemmas.{on_err}
 use Rattle.probe_io.proofs.Texts.{AppendsFront-text}
 use Rattle.probe_io.proofs.WrittenLemmas.{AppendsFront-more}
-use Rattle.proof_sinks.specs.Text.{hint_text}
+use Rattle.refutation_check.specs.LineText.{hint_text}
 use Rattle.proof_sinks.proofs.Printed.{ok_items, err_items}
 use Rattle.proof_sinks.proofs.printing.put_hints.Goals as goal
 

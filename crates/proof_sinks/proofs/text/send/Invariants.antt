@@ -1,4 +1,4 @@
-use Rattle.std.proofs.Common.{◌≡◌, length, take, ◌+◌, ◌-◌, ◌≤◌}
+use Rattle.std.proofs.Common.{◌≡◌, true, length, take, ◌+◌, ◌-◌, ◌≤◌}
 use Rattle.probe_io.specs.Written.{Appends}
 use Rattle.proof_sinks.proofs.text.send.Given as goal
 
@@ -8,7 +8,9 @@ invariant-loop-done g l = record {
   in_range : l.done ≤ length l.bytes;
   counted : l.sent ≡ l.fn.sent + l.done;
   written : Appends (g.K.Sink.written l.fn.sink) (g.K.Sink.written l.sink) (take l.done l.bytes);
-  quiet : g.K.Sink.faults l.sink ≡ g.K.Sink.faults l.fn.sink;
+  later : g.K.Sink.faults l.fn.sink ≤ g.K.Sink.faults l.sink;
+  quiet : g.K.Sink.strict ≡ true → g.K.Sink.faults l.sink ≡ g.K.Sink.faults l.fn.sink;
+  lender : g.K.Sink.lender l.sink ≡ g.K.Sink.lender l.fn.sink;
 }
 
 abbrev pub decreases-loop-done : goal.decreases-loop-done

@@ -1,6 +1,6 @@
 use Rattle.std.proofs.Common.{rules, ◌∙◌, ap, subst}
 use Rattle.probe_io.specs.Written.{AppendsFront}
-use Rattle.proof_sinks.specs.Text.{given_text}
+use Rattle.clause_base.specs.ClauseText.{given_text}
 use Rattle.proof_sinks.specs.declared.lines.Said.TheVariants.{Axiom}
 use Rattle.proof_sinks.proofs.Steps.{printed_whole, printed_front, front_of}
 use Rattle.proof_sinks.proofs.text.StepTextProofSink.axiom.Goals as goal

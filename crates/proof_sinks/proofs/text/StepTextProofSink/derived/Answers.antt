@@ -1,6 +1,6 @@
 use Rattle.std.proofs.Common.{rules, ◌+◌, ◌∙◌, ap, subst, length}
 use Rattle.probe_io.specs.Written.{AppendsFront}
-use Rattle.proof_sinks.specs.Text.{derived_text}
+use Rattle.refutation_check.specs.LineText.{derived_text}
 use Rattle.proof_sinks.specs.declared.lines.Said.TheVariants.{Derived}
 use Rattle.proof_sinks.proofs.Steps.{printed_whole, printed_front, front_of}
 use Rattle.proof_sinks.proofs.text.StepTextProofSink.derived.Goals as goal

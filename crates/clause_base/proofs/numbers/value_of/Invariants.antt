@@ -1,7 +1,0 @@
-use Rattle.std.proofs.Common.{◌≡◌, ◌+◌, take, min}
-use Rattle.std.specs.Str.Parse.{digits_value}
-use Rattle.clause_base.specs.FormulaText.{most_clauses}
-use Rattle.clause_base.proofs.numbers.value_of.Given as goal
-
-abbrev pub invariant-loop-digit : goal.invariant-loop-digit
-invariant-loop-digit l = l.value ≡ min (digits_value 10 (take l.digit-index l.digits)) (most_clauses + 1)

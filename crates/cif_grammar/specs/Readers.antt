@@ -9,12 +9,8 @@ use Rattle.plane_geom.specs.Texts.{◌>>=◌}
 use Rattle.cif_grammar.specs.declared.spelled.Number.{Number}
 use Rattle.cif_grammar.specs.declared.spelled.Signed.{Signed}
 use Rattle.cif_grammar.specs.declared.spelled.Spot.{Spot}
-use Rattle.cif_grammar.specs.Words.{is_blank, is_sep, limit}
+use Rattle.cif_grammar.specs.Words.{is_blank, is_sep, limit, skip}
 use Rattle.cif_grammar.specs.Grammar.{Transform, translate, mirror_x, mirror_y, rotate, Command, box, polygon, wire, layer, call, user, comment, start, finish, is_gap}
-
--- what stands behind all first bytes that pass a test
-abbrev pub skip : (ℕ → Bool) → List ℕ → List ℕ
-skip test bytes = drop (prefix_len test bytes) bytes
 
 -- what stands behind one byte that passes a test
 abbrev pub behind : (ℕ → Bool) → List ℕ → Option (List ℕ)

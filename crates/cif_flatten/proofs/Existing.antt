@@ -82,10 +82,10 @@ unfold_from : (fuel : ℕ) (symbols : List Symbol) (path : List ℕ) (items : Li
 unfold_from zero symbols path items nested way few = absurd (omega (arith, few, few_defined symbols path way.distinct way.defined))
 unfold_from (suc fuel) symbols path items nested way few =
     all_unfold symbols items (λ n called.
-        by_cases (is_defined symbols n)
-        (λ is_one. by_cases (has path n) (λ again. absurd (nested.none n (way.leads n n again called)))
-            (λ new. unfold_from fuel symbols (n ∷ path) (items_of symbols n) nested (further symbols path items n way called is_one new) (omega (arith, few))))
-        (λ none. undefined_unfolds symbols n none))
+    by_cases (is_defined symbols n)
+    (λ is_one. by_cases (has path n) (λ again. absurd (nested.none n (way.leads n n again called)))
+    (λ new. unfold_from fuel symbols (n ∷ path) (items_of symbols n) nested (further symbols path items n way called is_one new) (omega (arith, few))))
+    (λ none. undefined_unfolds symbols n none))
 
 -- A file in which no symbol calls itself unfolds to some list.
 pub some_unfolding : (file : Contents) → IsNested file.symbols → HasUnfolding file

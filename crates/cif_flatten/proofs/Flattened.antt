@@ -180,7 +180,7 @@ flattened_within file lists kept flat =
     let formed = all_formed placed (unfolds_kept file.symbols (in_place [] 0 file.top) placed kept.symbols (in_place_kept [] 0 file.top kept.top) flat.unfolded) in
     let all_drawn : All IsDrawnWithin (drawn placed) = λ k d lt. within_range (slice_index_or (drawn placed) k d) (formed k d lt) (shapes k d lt) in
     let all_marked : All (λ (m : Marked). IsPointWithin (2 ^ 24) m.at) (marked placed) =
-        λ k d lt. All-head (IsPointWithin (2 ^ 24)) (slice_index_or (marked placed) k d).at [] (labels k d lt) in
+    λ k d lt. All-head (IsPointWithin (2 ^ 24)) (slice_index_or (marked placed) k d).at [] (labels k d lt) in
     let draws = unmapped IsDrawnWithin drawn_of lists.draws (subst (All IsDrawnWithin) (sym flat.draws) all_drawn) in
     record {
       draws = λ k d lt. let w = draws k d lt in record { formed = w.formed; reach = w.reach };

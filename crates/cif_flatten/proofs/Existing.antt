@@ -29,12 +29,14 @@ Everywhere symbols items = (steps : List Step) (depth : ℕ) → Unfolding symbo
 
 -- ---- from the symbols that are called
 
-one_unfolds : (symbols : List Symbol) (what : What) → ((n : ℕ) → is_call_of n what ≡ true → Everywhere symbols (items_of symbols n)) → (steps : List Step) (depth : ℕ) → Unfolding symbols (opened_by symbols steps depth what)
+one_unfolds : (symbols : List Symbol) (what : What) → ((n : ℕ) → is_call_of n what ≡ true → Everywhere symbols (items_of symbols n))
+    → (steps : List Step) (depth : ℕ) → Unfolding symbols (opened_by symbols steps depth what)
 one_unfolds symbols (Draw layer shape) each steps depth = record { placed = []; unfolds = refl }
 one_unfolds symbols (Call number place) each steps depth = each number (eq-eqb number number refl) (steps_of place ++ steps) (depth + 1)
 one_unfolds symbols (Mark name at layer) each steps depth = record { placed = []; unfolds = refl }
 
-all_unfold : (symbols : List Symbol) (items : List Item) → ((n : ℕ) → has_call n items ≡ true → Everywhere symbols (items_of symbols n)) → Everywhere symbols items
+all_unfold : (symbols : List Symbol) (items : List Item) → ((n : ℕ) → has_call n items ≡ true → Everywhere symbols (items_of symbols n))
+    → Everywhere symbols items
 all_unfold symbols [] each steps depth = record { placed = []; unfolds = refl }
 all_unfold symbols (item ∷ items) each steps depth =
     let first = one_unfolds symbols item.what (λ n h. each n (or_left (is_call_of n item.what) (has_call n items) h)) steps depth in
@@ -42,7 +44,8 @@ all_unfold symbols (item ∷ items) each steps depth =
     let c : Placed = record { item = item; steps = steps; depth = depth } in
     record {
       placed = c ∷ (first.placed ++ more.placed);
-      unfolds = (refl, unfolds_append symbols (opened_by symbols steps depth item.what) (in_place steps depth items) first.placed more.placed first.unfolds more.unfolds);
+      unfolds = (refl, unfolds_append symbols (opened_by symbols steps depth item.what)
+          (in_place steps depth items) first.placed more.placed first.unfolds more.unfolds);
     }
 
 -- ---- the way from the top
@@ -57,11 +60,13 @@ all_other : (n : ℕ) (path : List ℕ) → has path n ≡ false → AllByRecurs
 all_other n [] h = tt
 all_other n (m ∷ path) h = let parts = or_parts (nat_eq n m) (has path n) h in (parts.0, all_other n path parts.1)
 
-further : (symbols : List Symbol) (path : List ℕ) (items : List Item) (n : ℕ) → Way symbols path items → has_call n items ≡ true → is_defined symbols n ≡ true → has path n ≡ false → Way symbols (n ∷ path) (items_of symbols n)
+further : (symbols : List Symbol) (path : List ℕ) (items : List Item) (n : ℕ) → Way symbols path items → has_call n items ≡ true
+    → is_defined symbols n ≡ true → has path n ≡ false → Way symbols (n ∷ path) (items_of symbols n)
 further symbols path items n way called is_one new = record {
   distinct = IsDistinct-cons nat_eq n path (all_other n path new) way.distinct;
   defined = λ m h. or_case (nat_eq m n) (has path m) h (λ e. ap (is_defined symbols) (eqb-true m n e) ∙ is_one) (λ r. way.defined m r);
-  leads = λ m k h c. or_case (nat_eq m n) (has path m) h (λ e. subst (λ x. CallsThrough symbols x k) (sym (eqb-true m n e)) (record { through = []; along = c }))
+  leads = λ m k h c. or_case (nat_eq m n) (has path m) h
+      (λ e. subst (λ x. CallsThrough symbols x k) (sym (eqb-true m n e)) (record { through = []; along = c }))
       (λ r. through_more symbols m n k (way.leads m n r called) c);
 }
 
@@ -71,25 +76,34 @@ none_in (Some s) h = absurd (false≢true (sym h))
 
 -- A symbol that is not defined has no items.
 undefined_unfolds : (symbols : List Symbol) (n : ℕ) → is_defined symbols n ≡ false → Everywhere symbols (items_of symbols n)
-undefined_unfolds symbols n h steps depth = record { placed = []; unfolds = ap (in_place steps depth) (none_in (find (has_number n) symbols) (some_any (has_number n) symbols ∙ h)) }
+undefined_unfolds symbols n h steps depth = record {
+  placed = [];
+  unfolds = ap (in_place steps depth) (none_in (find (has_number n) symbols) (some_any (has_number n) symbols ∙ h));
+}
 
 by_cases : {P : Type 0} (b : Bool) → (b ≡ true → P) → (b ≡ false → P) → P
 by_cases true f g = f refl
 by_cases false f g = g refl
 
 -- The way may go on for so many symbols.
-unfold_from : (fuel : ℕ) (symbols : List Symbol) (path : List ℕ) (items : List Item) → IsNested symbols → Way symbols path items → length symbols < length path + fuel → Everywhere symbols items
+unfold_from : (fuel : ℕ) (symbols : List Symbol) (path : List ℕ) (items : List Item) → IsNested symbols → Way symbols path items
+    → length symbols < length path + fuel → Everywhere symbols items
 unfold_from zero symbols path items nested way few = absurd (omega (arith, few, few_defined symbols path way.distinct way.defined))
 unfold_from (suc fuel) symbols path items nested way few =
     all_unfold symbols items (λ n called.
     by_cases (is_defined symbols n)
     (λ is_one. by_cases (has path n) (λ again. absurd (nested.none n (way.leads n n again called)))
-    (λ new. unfold_from fuel symbols (n ∷ path) (items_of symbols n) nested (further symbols path items n way called is_one new) (omega (arith, few))))
+    (λ new. unfold_from fuel symbols (n ∷ path) (items_of symbols n) nested (further symbols path items n way called is_one new)
+        (omega (arith, few))))
     (λ none. undefined_unfolds symbols n none))
 
 -- A file in which no symbol calls itself unfolds to some list.
 pub some_unfolding : (file : Contents) → IsNested file.symbols → HasUnfolding file
 some_unfolding file nested =
-    let way : Way file.symbols [] file.top = record { distinct = distinct_none; defined = λ n h. absurd (false≢true h); leads = λ m n h c. absurd (false≢true h) } in
+    let way : Way file.symbols [] file.top = record {
+      distinct = distinct_none;
+      defined = λ n h. absurd (false≢true h);
+      leads = λ m n h c. absurd (false≢true h);
+    } in
     let u = unfold_from (length file.symbols + 1) file.symbols [] file.top nested way (omega arith) [] 0 in
     record { placed = u.placed; unfolded = u.unfolds }

@@ -24,11 +24,17 @@ pub record HasCell (r : Rect) (x y : ℤ) : Type 0 where
   pub above : y <ℤ r.y1
 
 in_inner : (r s : Rect) (x y : ℤ) → IsRectIn r s → is_in_rect s x y ≡ true → HasCell r x y
-in_inner r s x y h e = record { left = grind (arith, ints, h.left); right = grind (arith, ints, h.right); below = grind (arith, ints, h.below); above = grind (arith, ints, h.above) }
+in_inner r s x y h e = record {
+  left = grind (arith, ints, h.left);
+  right = grind (arith, ints, h.right);
+  below = grind (arith, ints, h.below);
+  above = grind (arith, ints, h.above);
+}
 
 -- ---- wires
 
-segment_in : (r : Rect) (half x y : ℤ) (p : Point) (qs : List Point) → HoldsAround r half p → All (HoldsAround r half) qs → list_any (λ s. is_in_rect (widened half s) x y) (edges_from p qs) ≡ true → HasCell r x y
+segment_in : (r : Rect) (half x y : ℤ) (p : Point) (qs : List Point) → HoldsAround r half p → All (HoldsAround r half) qs
+    → list_any (λ s. is_in_rect (widened half s) x y) (edges_from p qs) ≡ true → HasCell r x y
 segment_in r half x y p [] here all e = absurd (false≢true e)
 segment_in r half x y p (q ∷ qs) here all e =
     let next = All-head (HoldsAround r half) q qs all in
@@ -37,7 +43,8 @@ segment_in r half x y p (q ∷ qs) here all e =
       | inr more ↦ segment_in r half x y q qs next (All-tail (HoldsAround r half) q qs all) more
     ]
 
-wire_in : (r : Rect) (half x y : ℤ) (path : List Point) → All (HoldsAround r half) path → list_any (λ s. is_in_rect (widened half s) x y) (segments path) ≡ true → HasCell r x y
+wire_in : (r : Rect) (half x y : ℤ) (path : List Point) → All (HoldsAround r half) path
+    → list_any (λ s. is_in_rect (widened half s) x y) (segments path) ≡ true → HasCell r x y
 wire_in r half x y [] all e = absurd (false≢true e)
 wire_in r half x y (p ∷ []) all e =
     let here = All-head (HoldsAround r half) p [] all in
@@ -45,13 +52,16 @@ wire_in r half x y (p ∷ []) all e =
       | inl one ↦ in_inner r (widened half (p, p)) x y (widened_inside half p p r here here) one
       | inr none ↦ absurd (false≢true none)
     ]
-wire_in r half x y (p ∷ q ∷ qs) all e = segment_in r half x y p (q ∷ qs) (All-head (HoldsAround r half) p (q ∷ qs) all) (All-tail (HoldsAround r half) p (q ∷ qs) all) e
+wire_in r half x y (p ∷ q ∷ qs) all e = segment_in r half x y p (q ∷ qs) (All-head (HoldsAround r half) p (q ∷ qs) all)
+    (All-tail (HoldsAround r half) p (q ∷ qs) all) e
 
 -- ---- polygons
 
-all_points : (r : Rect) (P : Point → Type 0) (points : List Point) → ((p : Point) → HoldsAround r (pos 0) p → P p) → All (HoldsAround r (pos 0)) points → AllByRecursion P points
+all_points : (r : Rect) (P : Point → Type 0) (points : List Point) → ((p : Point) → HoldsAround r (pos 0) p → P p)
+    → All (HoldsAround r (pos 0)) points → AllByRecursion P points
 all_points r P [] each all = tt
-all_points r P (p ∷ points) each all = (each p (All-head (HoldsAround r (pos 0)) p points all), all_points r P points each (All-tail (HoldsAround r (pos 0)) p points all))
+all_points r P (p ∷ points) each all =
+    (each p (All-head (HoldsAround r (pos 0)) p points all), all_points r P points each (All-tail (HoldsAround r (pos 0)) p points all))
 
 none_of : (v s : Bool) → (v && s && not true) ≡ false
 none_of true true = refl
@@ -66,33 +76,52 @@ both_of false true = refl
 both_of false false = refl
 
 -- Left of all corners no edge is crossed.
-none_crossed : (x y : ℤ) (p : Point) (ps : List Point) → int_lt x p.x ≡ true → AllByRecursion (λ q. int_lt x q.x ≡ true) ps → count_by (is_crossed x y) (edges_from p ps) ≡ 0
+none_crossed : (x y : ℤ) (p : Point) (ps : List Point) → int_lt x p.x ≡ true → AllByRecursion (λ q. int_lt x q.x ≡ true) ps
+    → count_by (is_crossed x y) (edges_from p ps) ≡ 0
 none_crossed x y p [] here rest = refl
 none_crossed x y p (q ∷ qs) here rest =
-    let one : is_crossed x y (p, q) ≡ false = ap (λ b. is_vertical (p, q) && spans y (p, q) && not b) here ∙ none_of (is_vertical (p, q)) (spans y (p, q)) in
+    let one : is_crossed x y (p, q) ≡ false = ap (λ b. is_vertical (p, q) && spans y (p, q) && not b) here
+        ∙ none_of (is_vertical (p, q)) (spans y (p, q)) in
     count_cons (is_crossed x y) (p, q) (edges_from q qs) ∙ (λ i. cond (one i) 1 0 + none_crossed x y q qs rest.0 rest.1 i)
 
 -- Right of all corners each upright edge is crossed.
-all_crossed : (x y : ℤ) (p : Point) (ps : List Point) → int_lt x p.x ≡ false → AllByRecursion (λ q. int_lt x q.x ≡ false) ps → count_by (is_crossed x y) (edges_from p ps) ≡ count_by (is_upright y) (edges_from p ps)
+all_crossed : (x y : ℤ) (p : Point) (ps : List Point) → int_lt x p.x ≡ false → AllByRecursion (λ q. int_lt x q.x ≡ false) ps
+    → count_by (is_crossed x y) (edges_from p ps) ≡ count_by (is_upright y) (edges_from p ps)
 all_crossed x y p [] here rest = refl
 all_crossed x y p (q ∷ qs) here rest =
-    let one : is_crossed x y (p, q) ≡ is_upright y (p, q) = ap (λ b. is_vertical (p, q) && spans y (p, q) && not b) here ∙ both_of (is_vertical (p, q)) (spans y (p, q)) in
-    count_cons (is_crossed x y) (p, q) (edges_from q qs) ∙ (λ i. cond (one i) 1 0 + all_crossed x y q qs rest.0 rest.1 i) ∙ sym (count_cons (is_upright y) (p, q) (edges_from q qs))
+    let one : is_crossed x y (p, q) ≡ is_upright y (p, q) = ap (λ b. is_vertical (p, q) && spans y (p, q) && not b) here
+        ∙ both_of (is_vertical (p, q)) (spans y (p, q)) in
+    count_cons (is_crossed x y) (p, q) (edges_from q qs) ∙ (λ i. cond (one i) 1 0 + all_crossed x y q qs rest.0 rest.1 i)
+    ∙ sym (count_cons (is_upright y) (p, q) (edges_from q qs))
 
 none_left : (points : List Point) (x y : ℤ) → AllByRecursion (λ q. int_lt x q.x ≡ true) points → polygon_covers points x y ≡ false
 none_left [] x y h = refl
 none_left (p ∷ ps) x y h = ap is_odd (none_crossed x y p (ps ++ p ∷ []) h.0 (all_push (λ q. int_lt x q.x ≡ true) ps p h.1 h.0))
 
-none_right : (points : List Point) (x y : ℤ) → IsOutline points → AllByRecursion (λ q. int_lt x q.x ≡ false) points → polygon_covers points x y ≡ false
+none_right : (points : List Point) (x y : ℤ) → IsOutline points → AllByRecursion (λ q. int_lt x q.x ≡ false) points
+    → polygon_covers points x y ≡ false
 none_right [] x y formed h = refl
-none_right (p ∷ ps) x y formed h = ap is_odd (all_crossed x y p (ps ++ p ∷ []) h.0 (all_push (λ q. int_lt x q.x ≡ false) ps p h.1 h.0)) ∙ outline_even (p ∷ ps) y formed
+none_right (p ∷ ps) x y formed h = ap is_odd (all_crossed x y p (ps ++ p ∷ []) h.0 (all_push (λ q. int_lt x q.x ≡ false) ps p h.1 h.0))
+    ∙ outline_even (p ∷ ps) y formed
 
-polygon_in : (r : Rect) (points : List Point) (x y : ℤ) → IsOutline points → All (HoldsAround r (pos 0)) points → polygon_covers points x y ≡ true → HasCell r x y
+clash : {P : Type 0} (b : Bool) → b ≡ false → b ≡ true → P
+clash b f t = absurd (false≢true (sym f ∙ t))
+
+polygon_in : (r : Rect) (points : List Point) (x y : ℤ) → IsOutline points → All (HoldsAround r (pos 0)) points
+    → polygon_covers points x y ≡ true → HasCell r x y
 polygon_in r points x y formed all e = record {
-  left = by_lt_z x r.x0 (λ less. absurd (false≢true (sym (none_left points x y (all_points r (λ q. int_lt x q.x ≡ true) points (λ q h. grind (arith, ints, less, h.left)) all)) ∙ e))) (λ k. k);
-  right = by_lt_z x r.x1 (λ k. k) (λ more. absurd (false≢true (sym (none_right points x y formed (all_points r (λ q. int_lt x q.x ≡ false) points (λ q h. grind (arith, ints, more, h.right)) all)) ∙ e)));
-  below = by_lt_z y r.y0 (λ less. absurd (false≢true (sym (covers_none points x y true (all_points r (λ q. int_lt y q.y ≡ true) points (λ q h. grind (arith, ints, less, h.below)) all)) ∙ e))) (λ k. k);
-  above = by_lt_z y r.y1 (λ k. k) (λ more. absurd (false≢true (sym (covers_none points x y false (all_points r (λ q. int_lt y q.y ≡ false) points (λ q h. grind (arith, ints, more, h.above)) all)) ∙ e)));
+  left = by_lt_z x r.x0
+      (λ less. let out = all_points r (λ q. int_lt x q.x ≡ true) points (λ q h. grind (arith, ints, less, h.left)) all in
+          clash (polygon_covers points x y) (none_left points x y out) e) (λ k. k);
+  right = by_lt_z x r.x1 (λ k. k)
+      (λ more. let out = all_points r (λ q. int_lt x q.x ≡ false) points (λ q h. grind (arith, ints, more, h.right)) all in
+          clash (polygon_covers points x y) (none_right points x y formed out) e);
+  below = by_lt_z y r.y0
+      (λ less. let out = all_points r (λ q. int_lt y q.y ≡ true) points (λ q h. grind (arith, ints, less, h.below)) all in
+          clash (polygon_covers points x y) (covers_none points x y true out) e) (λ k. k);
+  above = by_lt_z y r.y1 (λ k. k)
+      (λ more. let out = all_points r (λ q. int_lt y q.y ≡ false) points (λ q h. grind (arith, ints, more, h.above)) all in
+          clash (polygon_covers points x y) (covers_none points x y false out) e);
 }
 
 -- A covered cell lies within each rectangle round the shape.

@@ -34,10 +34,13 @@ shape_cell d x y within e =
       above = omega (arith, ints, near.y1.high, cell.above);
     }
 
-layer_cell : (draws : List Draw) (name : List ℕ) (x y : ℤ) → All (λ (d : Draw). IsShapeWithin (2 ^ 24) d.shape) draws → layer_covers draws name x y ≡ true → IsCellWithin (2 ^ 24) x y
+layer_cell : (draws : List Draw) (name : List ℕ) (x y : ℤ) → All (λ (d : Draw). IsShapeWithin (2 ^ 24) d.shape) draws
+    → layer_covers draws name x y ≡ true → IsCellWithin (2 ^ 24) x y
 layer_cell [] name x y within e = absurd (false≢true e)
-layer_cell (d ∷ draws) name x y within e = elim (or_cases (bytes_eq d.layer name && covers (figure_of d.shape) x y) (layer_covers draws name x y) e) [
-  | inl here ↦ shape_cell d x y (All-head (λ (d : Draw). IsShapeWithin (2 ^ 24) d.shape) d draws within) (and_parts (bytes_eq d.layer name) (covers (figure_of d.shape) x y) here).1
+layer_cell (d ∷ draws) name x y within e = elim
+    (or_cases (bytes_eq d.layer name && covers (figure_of d.shape) x y) (layer_covers draws name x y) e) [
+  | inl here ↦ shape_cell d x y (All-head (λ (d : Draw). IsShapeWithin (2 ^ 24) d.shape) d draws within)
+      (and_parts (bytes_eq d.layer name) (covers (figure_of d.shape) x y) here).1
   | inr there ↦ layer_cell draws name x y (All-tail (λ (d : Draw). IsShapeWithin (2 ^ 24) d.shape) d draws within) there
 ]
 
@@ -48,10 +51,13 @@ by_cases : {P : Type 0} (b : Bool) → (b ≡ true → P) → (b ≡ false → P
 by_cases true f g = f refl
 by_cases false f g = g refl
 
-layer_outside : (draws : List Draw) (x y : ℤ) → All (λ (d : Draw). IsShapeWithin (2 ^ 24) d.shape) draws → is_in_rect square x y ≡ false → (name : List ℕ) → layer_covers draws name x y ≡ false
-layer_outside draws x y within out name = by_cases (layer_covers draws name x y) (λ e. absurd (false≢true (sym out ∙ in_square x y (layer_cell draws name x y within e)))) (λ none. none)
+layer_outside : (draws : List Draw) (x y : ℤ) → All (λ (d : Draw). IsShapeWithin (2 ^ 24) d.shape) draws → is_in_rect square x y ≡ false
+    → (name : List ℕ) → layer_covers draws name x y ≡ false
+layer_outside draws x y within out name = by_cases (layer_covers draws name x y)
+    (λ e. absurd (false≢true (sym out ∙ in_square x y (layer_cell draws name x y within e)))) (λ none. none)
 
-true_outside : (draws : List Draw) (f : Formula) (x y : ℤ) → All (λ (d : Draw). IsShapeWithin (2 ^ 24) d.shape) draws → is_in_rect square x y ≡ false → is_true_at draws f x y ≡ is_unbounded f
+true_outside : (draws : List Draw) (f : Formula) (x y : ℤ) → All (λ (d : Draw). IsShapeWithin (2 ^ 24) d.shape) draws
+    → is_in_rect square x y ≡ false → is_true_at draws f x y ≡ is_unbounded f
 true_outside draws f x y within out = ap (holds f) (λ i name. layer_outside draws x y within out name i)
 
 -- ---- the cells of a square that pass a test, one strip for each
@@ -84,7 +90,8 @@ in_cell x y = grind (arith, ints)
 passes : (test : ℤ → ℤ → Bool) (x y i j : ℤ) → i ≡ x → j ≡ y → test x y ≡ true → test i j ≡ true
 passes test x y i j a b h = (λ k. test (a k) (b k)) ∙ h
 
-sound_case : (test : ℤ → ℤ → Bool) (x y i j : ℤ) (b : Bool) (more : List Strip) → test x y ≡ b → is_in (cond b (cell x y ∷ more) more) i j ≡ true → (is_in more i j ≡ true → test i j ≡ true) → test i j ≡ true
+sound_case : (test : ℤ → ℤ → Bool) (x y i j : ℤ) (b : Bool) (more : List Strip) → test x y ≡ b
+    → is_in (cond b (cell x y ∷ more) more) i j ≡ true → (is_in more i j ≡ true → test i j ≡ true) → test i j ≡ true
 sound_case test x y i j true more t h f = elim (or_cases (is_in_strip (cell x y) i j) (is_in more i j) h) [
   | inl here ↦ passes test x y i j (cell_x x y i j here) (cell_y x y i j here) t
   | inr there ↦ f there
@@ -94,7 +101,8 @@ sound_case test x y i j false more t h f = f h
 row_sound : (test : ℤ → ℤ → Bool) (y : ℤ) (n : ℕ) (x i j : ℤ) → is_in (row test y n x) i j ≡ true → test i j ≡ true
 unfolding row
 row_sound test y zero x i j h = absurd (false≢true h)
-row_sound test y (suc n) x i j h = sound_case test x y i j (test x y) (row test y n (x +ℤ pos 1)) refl h (row_sound test y n (x +ℤ pos 1) i j)
+row_sound test y (suc n) x i j h = sound_case test x y i j (test x y) (row test y n (x +ℤ pos 1)) refl h
+    (row_sound test y n (x +ℤ pos 1) i j)
 
 any_either : (xs ys : List Strip) (i j : ℤ) → is_in (xs ++ ys) i j ≡ (is_in xs i j || is_in ys i j)
 any_either xs ys i j = list_any-append (λ s. is_in_strip s i j) xs ys
@@ -102,7 +110,9 @@ any_either xs ys i j = list_any-append (λ s. is_in_strip s i j) xs ys
 rows_sound : (test : ℤ → ℤ → Bool) (x : ℤ) (wide n : ℕ) (y i j : ℤ) → is_in (rows test x wide n y) i j ≡ true → test i j ≡ true
 unfolding rows
 rows_sound test x wide zero y i j h = absurd (false≢true h)
-rows_sound test x wide (suc n) y i j h = elim (or_cases (is_in (row test y wide x) i j) (is_in (rows test x wide n (y +ℤ pos 1)) i j) (sym (any_either (row test y wide x) (rows test x wide n (y +ℤ pos 1)) i j) ∙ h)) [
+rows_sound test x wide (suc n) y i j h = elim
+    (or_cases (is_in (row test y wide x) i j) (is_in (rows test x wide n (y +ℤ pos 1)) i j)
+        (sym (any_either (row test y wide x) (rows test x wide n (y +ℤ pos 1)) i j) ∙ h)) [
   | inl here ↦ row_sound test y wide x i j here
   | inr there ↦ rows_sound test x wide n (y +ℤ pos 1) i j there
 ]
@@ -115,24 +125,30 @@ more_case : (x y i j : ℤ) (b : Bool) (more : List Strip) → is_in more i j �
 more_case x y i j true more h = or_right (is_in_strip (cell x y) i j) (is_in more i j) h
 more_case x y i j false more h = h
 
-row_whole : (test : ℤ → ℤ → Bool) (y : ℤ) (n : ℕ) (x i : ℤ) → test i y ≡ true → x ≤ℤ i → i <ℤ (x +ℤ pos n) → is_in (row test y n x) i y ≡ true
+row_whole : (test : ℤ → ℤ → Bool) (y : ℤ) (n : ℕ) (x i : ℤ) → test i y ≡ true → x ≤ℤ i → i <ℤ (x +ℤ pos n)
+    → is_in (row test y n x) i y ≡ true
 unfolding row
 row_whole test y zero x i t low high = absurd (omega (arith, ints, low, high))
 row_whole test y (suc n) x i t low high = by_lt_z x i
-    (λ later. more_case x y i y (test x y) (row test y n (x +ℤ pos 1)) (row_whole test y n (x +ℤ pos 1) i t (omega (arith, ints, later)) (omega (arith, ints, high))))
+    (λ later. more_case x y i y (test x y) (row test y n (x +ℤ pos 1))
+        (row_whole test y n (x +ℤ pos 1) i t (omega (arith, ints, later)) (omega (arith, ints, high))))
     (λ le. let same : i ≡ x = omega (arith, ints, le, low) in
-    subst (λ k. is_in (cond (test x y) (cell x y ∷ row test y n (x +ℤ pos 1)) (row test y n (x +ℤ pos 1))) k y ≡ true) (sym same) (first_case x y (test x y) (row test y n (x +ℤ pos 1)) (subst (λ k. test k y ≡ true) same t)))
+    subst (λ k. is_in (cond (test x y) (cell x y ∷ row test y n (x +ℤ pos 1)) (row test y n (x +ℤ pos 1))) k y ≡ true) (sym same)
+        (first_case x y (test x y) (row test y n (x +ℤ pos 1)) (subst (λ k. test k y ≡ true) same t)))
 
-rows_whole : (test : ℤ → ℤ → Bool) (x : ℤ) (wide n : ℕ) (y i j : ℤ) → test i j ≡ true → x ≤ℤ i → i <ℤ (x +ℤ pos wide) → y ≤ℤ j → j <ℤ (y +ℤ pos n) → is_in (rows test x wide n y) i j ≡ true
+rows_whole : (test : ℤ → ℤ → Bool) (x : ℤ) (wide n : ℕ) (y i j : ℤ) → test i j ≡ true → x ≤ℤ i → i <ℤ (x +ℤ pos wide) → y ≤ℤ j
+    → j <ℤ (y +ℤ pos n) → is_in (rows test x wide n y) i j ≡ true
 unfolding rows
 rows_whole test x wide zero y i j t left right low high = absurd (omega (arith, ints, low, high))
 rows_whole test x wide (suc n) y i j t left right low high =
     any_either (row test y wide x) (rows test x wide n (y +ℤ pos 1)) i j
     ∙ by_lt_z y j
-    (λ later. or_right (is_in (row test y wide x) i j) (is_in (rows test x wide n (y +ℤ pos 1)) i j) (rows_whole test x wide n (y +ℤ pos 1) i j t left right (omega (arith, ints, later)) (omega (arith, ints, high))))
+    (λ later. or_right (is_in (row test y wide x) i j) (is_in (rows test x wide n (y +ℤ pos 1)) i j)
+        (rows_whole test x wide n (y +ℤ pos 1) i j t left right (omega (arith, ints, later)) (omega (arith, ints, high))))
     (λ le. let same : j ≡ y = omega (arith, ints, le, low) in
     or_left (is_in (row test y wide x) i j) (is_in (rows test x wide n (y +ℤ pos 1)) i j)
-    (subst (λ k. is_in (row test y wide x) i k ≡ true) (sym same) (row_whole test y wide x i (subst (λ k. test i k ≡ true) same t) left right)))
+    (subst (λ k. is_in (row test y wide x) i k ≡ true) (sym same)
+        (row_whole test y wide x i (subst (λ k. test i k ≡ true) same t) left right)))
 
 -- ---- masks
 
@@ -144,15 +160,19 @@ same_test false false f g = refl
 mask_by : List Draw → Formula → List Strip
 mask_by draws f = rows (is_true_at draws f) (neg_ℤ (pos (2 ^ 24))) (2 ^ 25) (2 ^ 25) (neg_ℤ (pos (2 ^ 24)))
 
-mask_whole : (draws : List Draw) (f : Formula) (x y : ℤ) → IsCellWithin (2 ^ 24) x y → is_true_at draws f x y ≡ true → is_in (mask_by draws f) x y ≡ true
+mask_whole : (draws : List Draw) (f : Formula) (x y : ℤ) → IsCellWithin (2 ^ 24) x y → is_true_at draws f x y ≡ true
+    → is_in (mask_by draws f) x y ≡ true
 unfolding mask_by
 mask_whole draws f x y h e =
-    rows_whole (is_true_at draws f) (neg_ℤ (pos (2 ^ 24))) (2 ^ 25) (2 ^ 25) (neg_ℤ (pos (2 ^ 24))) x y e h.left (omega (arith, ints, h.right)) h.below (omega (arith, ints, h.above))
+    rows_whole (is_true_at draws f) (neg_ℤ (pos (2 ^ 24))) (2 ^ 25) (2 ^ 25) (neg_ℤ (pos (2 ^ 24))) x y e h.left
+        (omega (arith, ints, h.right)) h.below (omega (arith, ints, h.above))
 
 square_cell : (x y : ℤ) → is_in_rect square x y ≡ true → IsCellWithin (2 ^ 24) x y
-square_cell x y h = record { left = grind (arith, ints); right = grind (arith, ints); below = grind (arith, ints); above = grind (arith, ints) }
+square_cell x y h =
+    record { left = grind (arith, ints); right = grind (arith, ints); below = grind (arith, ints); above = grind (arith, ints) }
 
-mask_is : (draws : List Draw) (f : Formula) → All (λ (d : Draw). IsShapeWithin (2 ^ 24) d.shape) draws → is_unbounded f ≡ false → IsMask draws f (mask_by draws f)
+mask_is : (draws : List Draw) (f : Formula) → All (λ (d : Draw). IsShapeWithin (2 ^ 24) d.shape) draws → is_unbounded f ≡ false
+    → IsMask draws f (mask_by draws f)
 unfolding mask_by
 mask_is draws f within bounded = record {
   cells = λ x y. same_test (is_in (mask_by draws f) x y) (is_true_at draws f x y)
@@ -162,7 +182,8 @@ mask_is draws f within bounded = record {
 }
 
 -- Expressions that are false where no layer is present have masks.
-pub some_masks : (draws : List Draw) (formulas : List Formula) → All (λ (d : Draw). IsShapeWithin (2 ^ 24) d.shape) draws → AllByRecursion (λ f. is_unbounded f ≡ false) formulas → HaveMasks draws formulas
+pub some_masks : (draws : List Draw) (formulas : List Formula) → All (λ (d : Draw). IsShapeWithin (2 ^ 24) d.shape) draws
+    → AllByRecursion (λ f. is_unbounded f ≡ false) formulas → HaveMasks draws formulas
 some_masks draws [] within bounded = record { regions = []; are = record { each = tt } }
 some_masks draws (f ∷ formulas) within bounded =
     let more = some_masks draws formulas within bounded.1 in

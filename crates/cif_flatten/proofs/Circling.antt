@@ -123,14 +123,14 @@ along_more : (symbols : List Symbol) (a : ℕ) (cs : List ℕ) (k n : ℕ) → C
 along_more symbols a [] k n h e = (h, e)
 along_more symbols a (c ∷ cs) k n h e = (h.0, along_more symbols c cs k n h.1 e)
 
-through_more : (symbols : List Symbol) (a k n : ℕ) → CallsThrough symbols a k → calls symbols k n ≡ true → CallsThrough symbols a n
+pub through_more : (symbols : List Symbol) (a k n : ℕ) → CallsThrough symbols a k → calls symbols k n ≡ true → CallsThrough symbols a n
 through_more symbols a k n h e = record { through = h.through ++ k ∷ []; along = along_more symbols a h.through k n h.along e }
 
 reached_first : (symbols : List Symbol) (start n : ℕ) → (has [] n ≡ true) ⊎ ((calls symbols start n ≡ true) × (is_defined symbols n ≡ true)) → CallsThrough symbols start n × (is_defined symbols n ≡ true)
 reached_first symbols start n (inl h) = absurd (false≢true h)
 reached_first symbols start n (inr h) = (record { through = []; along = h.0 }, h.1)
 
-distinct_none : IsDistinct nat_eq []
+pub distinct_none : IsDistinct nat_eq []
 unfolding IsDistinct
 distinct_none = tt
 
@@ -237,9 +237,12 @@ unfolding entry
 defined_lookup q [] h = absurd (false≢true h)
 defined_lookup q (s ∷ symbols) h = lookup_case (nat_eq q s.number) (is_defined symbols q) s (lookup (nat_eq q) (map entry symbols)) h (defined_lookup q symbols)
 
+-- Different symbols that are defined are no more than all symbols.
+pub few_defined : (symbols : List Symbol) (numbers : List ℕ) → IsDistinct nat_eq numbers → ((n : ℕ) → has numbers n ≡ true → is_defined symbols n ≡ true) → length numbers ≤ length symbols
+few_defined symbols numbers distinct defined = subst (λ n. length numbers ≤ n) (length-map symbols entry) (length-le_from_keys nat_eq_equiv numbers (map entry symbols) distinct (λ q h. defined_lookup q symbols (defined q h)))
+
 few_found : (symbols : List Symbol) (start : ℕ) (found : List ℕ) (place : ℕ) → Searched symbols start found place → length found ≤ length symbols
-few_found symbols start found place s =
-    subst (λ n. length found ≤ n) (length-map symbols entry) (length-le_from_keys nat_eq_equiv found (map entry symbols) s.distinct (λ q h. defined_lookup q symbols (s.reached q h).1))
+few_found symbols start found place s = few_defined symbols found s.distinct (λ q h. (s.reached q h).1)
 
 closed : (symbols : List Symbol) (start : ℕ) (found : List ℕ) (place : ℕ) → Searched symbols start found place → length found ≤ place → (k n : ℕ) → At found k → calls symbols k n ≡ true → is_defined symbols n ≡ true → has found n ≡ true
 closed symbols start found place s all k n at c d = s.next at.place k n (omega (arith, all, at.inside)) at.is c d

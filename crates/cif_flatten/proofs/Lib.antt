@@ -6,6 +6,7 @@ pub mod Sizing
 pub mod Nesting
 pub mod Exploring
 pub mod Circling
+pub mod Existing
 pub mod Ranked
 pub mod Distinct
 pub mod Unrolled
@@ -14,6 +15,7 @@ pub mod Shapes
 pub mod Wires
 pub mod Walked
 pub mod Judged
+pub mod Flattened
 pub mod OneAnswer
 pub mod SameFiles
 pub mod Positions

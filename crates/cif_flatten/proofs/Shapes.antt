@@ -76,7 +76,7 @@ segments_map steps (p ∷ q ∷ qs) = edges_map steps p (q ∷ qs)
 min_max : (a b : ℤ) → int_min a b ≤ℤ int_max a b
 min_max a b = omega (arith, ints, clamps)
 
-formed_moved : (steps : List Step) (f : Figure) → IsWellFormed f → IsWellFormed (moved_figure steps f)
+pub formed_moved : (steps : List Step) (f : Figure) → IsWellFormed f → IsWellFormed (moved_figure steps f)
 formed_moved steps (block r) h =
     let p : Point = moved steps (record { x = r.x0; y = r.y0 }) in
     let q : Point = moved steps (record { x = r.x1; y = r.y1 }) in
@@ -93,7 +93,7 @@ formed_moved steps (wire half path) h = record {
 
 -- ---- the reach is within the range
 
-range : Rect
+pub range : Rect
 range = record { x0 = neg_ℤ (pos (2 ^ 24)); y0 = neg_ℤ (pos (2 ^ 24)); x1 = pos (2 ^ 24); y1 = pos (2 ^ 24) }
 
 rect_within : (r : Rect) → All (IsPointWithin (2 ^ 24)) (rect_corners r) → IsRectWithin (2 ^ 24) r
@@ -104,7 +104,7 @@ rect_within r h =
     let high : IsPointWithin (2 ^ 24) highest = second (IsPointWithin (2 ^ 24)) lowest highest h in
     record { x0 = low.x; y0 = low.y; x1 = high.x; y1 = high.y }
 
-round_range : (f : Figure) → IsWellFormed f → All (IsPointWithin (2 ^ 24)) (corners f) → IsRound f range
+pub round_range : (f : Figure) → IsWellFormed f → All (IsPointWithin (2 ^ 24)) (corners f) → IsRound f range
 unfolding range
 round_range (block r) w h = let k : IsRectWithin (2 ^ 24) r = rect_within r h in record { left = k.x0.low; below = k.y0.low; right = k.x1.high; above = k.y1.high }
 round_range (polygon points) w h = All-weaker (IsPointWithin (2 ^ 24)) (HoldsAround range (pos 0)) (λ p k. record { left = omega (arith, ints, k.x.low); below = omega (arith, ints, k.y.low); right = omega (arith, ints, k.x.high); above = omega (arith, ints, k.y.high) }) points h
@@ -130,7 +130,7 @@ wide_zero p h = record { x = record { low = omega (arith, ints, h.x.low); high =
 none_below : {P : Type 0} → 0 < 0 → P
 none_below h = absurd (omega (arith, h))
 
-reach_within : (f : Figure) (r : Rect) → IsWellFormed f → All (IsPointWithin (2 ^ 24)) (corners f) → IsRound f r → IsRectIn range r → IsRectWithin (2 ^ 24) r
+pub reach_within : (f : Figure) (r : Rect) → IsWellFormed f → All (IsPointWithin (2 ^ 24)) (corners f) → IsRound f r → IsRectIn range r → IsRectWithin (2 ^ 24) r
 reach_within (block b) r w h k l = let m : IsRectWithin (2 ^ 24) b = rect_within b h in inside_range r b l m.x0.high m.y0.high m.x1.low m.y1.low k.left k.below k.right k.above
 reach_within (polygon []) r w h k l = none_below w.some
 reach_within (polygon (p ∷ points)) r w h k l = point_inside r (pos 0) p l (wide_zero p (All-head (IsPointWithin (2 ^ 24)) p points h)) (omega (arith, ints)) (All-head (HoldsAround r (pos 0)) p points k)

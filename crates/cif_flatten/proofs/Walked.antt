@@ -180,10 +180,10 @@ weighs (Draw layer shape) h = omega (arith, some_weight (figure_of shape) h.form
 weighs (Call number place) h = omega arith
 weighs (Mark name at layer) h = omega arith
 
-abbrev PlacedKept : Placed → Type 0
+abbrev pub PlacedKept : Placed → Type 0
 PlacedKept c = IsKeptWhat c.item.what
 
-in_place_kept : (steps : List Step) (depth : ℕ) (items : List Item) → AreKeptItems items → AllByRecursion PlacedKept (in_place steps depth items)
+pub in_place_kept : (steps : List Step) (depth : ℕ) (items : List Item) → AreKeptItems items → AllByRecursion PlacedKept (in_place steps depth items)
 in_place_kept steps depth [] h = tt
 in_place_kept steps depth (item ∷ items) h = (h.0, in_place_kept steps depth items h.1)
 
@@ -195,6 +195,13 @@ opened_kept symbols (Mark name at layer) steps depth h = tt
 kept_append : (xs ys : List Placed) → AllByRecursion PlacedKept xs → AllByRecursion PlacedKept ys → AllByRecursion PlacedKept (xs ++ ys)
 kept_append [] ys h k = k
 kept_append (x ∷ xs) ys h k = (h.0, kept_append xs ys h.1 k)
+
+-- What kept commands unfold to is kept.
+pub unfolds_kept : (symbols : List Symbol) (xs p : List Placed) → AreKeptSymbols symbols → AllByRecursion PlacedKept xs → Unfolds symbols xs p → AllByRecursion PlacedKept p
+unfolds_kept symbols xs [] s h u = tt
+unfolds_kept symbols [] (c ∷ p) s h u = absurd u
+unfolds_kept symbols (d ∷ xs) (c ∷ p) s h u =
+    (subst PlacedKept (sym u.0) h.0, unfolds_kept symbols (opened symbols d ++ xs) p s (kept_append (opened symbols d) xs (opened_kept symbols d.item.what d.steps d.depth s) h.1) u.1)
 
 more_weight : (c : Placed) (p : List Placed) → 1 ≤ call_count c.item.what + weight c.item.what → length p ≤ calls_among p + weight_among p → length (c ∷ p) ≤ calls_among (c ∷ p) + weight_among (c ∷ p)
 more_weight c p h k = omega (arith, h, k, sum_by-cons (λ (c : Placed). call_count c.item.what) c p, sum_by-cons (λ (c : Placed). weight c.item.what) c p)

@@ -63,3 +63,8 @@ pub record IsFlattened (file : Contents) (lists : Lists) : Type 0 where
   pub unfolded : IsUnfolding file placed
   pub draws : map drawn_of lists.draws ≡ drawn placed
   pub marks : map marked_of lists.marks ≡ marked placed
+
+-- The file is flattened to some lists.
+pub record HasFlattening (file : Contents) : Type 0 where
+  pub lists : Lists
+  pub flat : IsFlattened file lists

@@ -46,6 +46,11 @@ Unfolds symbols (d ∷ commands) (c ∷ placed) = (c ≡ d) × Unfolds symbols (
 abbrev pub IsUnfolding : Contents → List Placed → Type 0
 IsUnfolding file placed = Unfolds file.symbols (in_place [] 0 file.top) placed
 
+-- The file unfolds to some list of commands.
+pub record HasUnfolding (file : Contents) : Type 0 where
+  pub placed : List Placed
+  pub unfolded : IsUnfolding file placed
+
 -- ---- how much there is
 
 abbrev pub call_count : What → ℕ

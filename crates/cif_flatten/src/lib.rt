@@ -25,7 +25,7 @@ pub use calls::{UndefinedCall, undefined_call};
 pub use circles::recursive_symbol;
 pub use flat::{Draw, Flat, Mark};
 pub use flattening::flatten;
-pub use laws::{one_flattening, read_calls_are_apart};
+pub use laws::{flattened_within_range, one_flattening, read_calls_are_apart, some_unfolding};
 pub use refusal::FlattenRefusal;
 pub use sizes::{Size, unfolded_size};
 

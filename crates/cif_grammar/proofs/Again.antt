@@ -8,9 +8,9 @@ use Rattle.std.proofs.lemmas.List.{length-append}
 use Rattle.plane_geom.specs.Names.{is_short, is_short_byte}
 use Rattle.cif_grammar.specs.declared.spelled.Number.{Number}
 use Rattle.cif_grammar.specs.declared.spelled.Spot.{Spot}
-use Rattle.cif_grammar.specs.Words.{Then, ◌⋅◌, Literally, One, Run, is_blank, is_sep}
+use Rattle.cif_grammar.specs.Words.{Then, ◌⋅◌, Literally, One, Run, is_blank, is_sep, skip}
 use Rattle.cif_grammar.specs.Grammar.{Points, Transform, translate, mirror_x, mirror_y, rotate, Command, box, polygon, wire, layer, call, user, comment, start, finish, next, more_points, direction, scale, transform, transforms, is_user, command, end, is_gap}
-use Rattle.cif_grammar.specs.Readers.{skip, onto, and_more, repeated, or_none, digits_at, integer_at, signed_at, point_at, next_at, next_point_at, more_points_at, mirror_in, transform_in, transform_at, transforms_at, box_at, polygon_at, width_at, wire_at, layer_in, layer_at, call_at, is_text, user_at, closing, comment_at, two_at, start_at, definition_in, definition_at, body_in, body_at, semicolon_at, end_at, command_at}
+use Rattle.cif_grammar.specs.Readers.{onto, and_more, repeated, or_none, digits_at, integer_at, signed_at, point_at, next_at, next_point_at, more_points_at, mirror_in, transform_in, transform_at, transforms_at, box_at, polygon_at, width_at, wire_at, layer_in, layer_at, call_at, is_text, user_at, closing, comment_at, two_at, start_at, definition_in, definition_at, body_in, body_at, semicolon_at, end_at, command_at}
 use Rattle.cif_grammar.proofs.Runs.{begins, skip_run, skip_over, len_run, take_run, drop_run}
 use Rattle.cif_grammar.proofs.Joins.{parts_of, one_begins}
 use Rattle.cif_grammar.proofs.Points.{digit_is_text, blank_is_sep, sep_no_digit, integer_again, point_again, next_again, next_point_again}

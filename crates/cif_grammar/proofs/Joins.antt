@@ -2,8 +2,8 @@
 use Rattle.std.proofs.Common.{◌≡◌, ℕ, ◌+◌, Bool, true, false, List, [], ◌∷◌, ◌++◌, length, Some, refl, sym, ap, ◌∙◌, arith, append_assoc}
 use Rattle.std.proofs.lemmas.List.{length-append}
 use Rattle.plane_geom.proofs.Options.{guarded}
-use Rattle.cif_grammar.specs.Words.{Then, Takes, Literally, Nothing, One, Run}
-use Rattle.cif_grammar.specs.Readers.{skip, behind}
+use Rattle.cif_grammar.specs.Words.{Then, Takes, Literally, Nothing, One, Run, skip}
+use Rattle.cif_grammar.specs.Readers.{behind}
 use Rattle.cif_grammar.proofs.Runs.{begins, parted}
 
 -- ---- what is read

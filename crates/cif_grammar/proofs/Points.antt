@@ -11,9 +11,9 @@ use Rattle.plane_geom.proofs.Options.{bind_some}
 use Rattle.cif_grammar.specs.declared.spelled.Number.{Number}
 use Rattle.cif_grammar.specs.declared.spelled.Signed.{Signed}
 use Rattle.cif_grammar.specs.declared.spelled.Spot.{Spot}
-use Rattle.cif_grammar.specs.Words.{◌⋅◌, Takes, Digits, is_blank, is_sep, limit}
+use Rattle.cif_grammar.specs.Words.{◌⋅◌, Takes, Digits, is_blank, is_sep, limit, skip}
 use Rattle.cif_grammar.specs.Grammar.{integer, sign, signed, point, next, next_point}
-use Rattle.cif_grammar.specs.Readers.{skip, behind, digits_at, integer_at, sized_at, signed_in, signed_at, point_at, next_at, next_point_at, is_text}
+use Rattle.cif_grammar.specs.Readers.{behind, digits_at, integer_at, sized_at, signed_in, signed_at, point_at, next_at, next_point_at, is_text}
 use Rattle.cif_grammar.proofs.Runs.{begins, parted, skip_run, len_run, take_run, drop_run}
 use Rattle.cif_grammar.proofs.Numbers.{own}
 use Rattle.cif_grammar.proofs.Joins.{takes_then, then_at, run_takes, one_takes, byte_takes, nothing_takes, parts_of, one_again, one_begins}

@@ -9,9 +9,9 @@ use Rattle.plane_geom.specs.Names.{is_short, is_short_byte}
 use Rattle.plane_geom.proofs.Options.{bind_some, map_some, guarded}
 use Rattle.cif_grammar.specs.declared.spelled.Number.{Number}
 use Rattle.cif_grammar.specs.declared.spelled.Spot.{Spot}
-use Rattle.cif_grammar.specs.Words.{◌⋅◌, Takes, Literally, Run, is_blank}
+use Rattle.cif_grammar.specs.Words.{◌⋅◌, Takes, Literally, Run, is_blank, skip}
 use Rattle.cif_grammar.specs.Grammar.{Transform, translate, mirror_x, mirror_y, rotate, Command, box, polygon, wire, layer, call, user, comment, start, finish, next, more_points, direction, scale, transform, transforms, Short, Matched, is_user, command, end, is_gap}
-use Rattle.cif_grammar.specs.Readers.{skip, and_more, repeated, or_none, integer_at, point_at, next_at, next_point_at, more_points_at, mirror_in, transform_in, transform_at, transforms_at, box_at, polygon_at, width_at, wire_at, layer_at, call_at, is_text, user_at, closing, comment_at, two_at, start_at, definition_in, definition_at, body_at, semicolon_at, end_at, command_at}
+use Rattle.cif_grammar.specs.Readers.{and_more, repeated, or_none, integer_at, point_at, next_at, next_point_at, more_points_at, mirror_in, transform_in, transform_at, transforms_at, box_at, polygon_at, width_at, wire_at, layer_at, call_at, is_text, user_at, closing, comment_at, two_at, start_at, definition_in, definition_at, body_at, semicolon_at, end_at, command_at}
 use Rattle.cif_grammar.proofs.Runs.{parted, len_yes}
 use Rattle.cif_grammar.proofs.Joins.{takes_then, then_at, run_takes, byte_takes, nothing_takes}
 use Rattle.cif_grammar.proofs.Points.{digit_is_text, integer_takes, point_takes, next_takes, next_point_takes}

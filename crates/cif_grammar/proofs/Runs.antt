@@ -2,7 +2,7 @@
 use Rattle.std.proofs.Common.{◌≡◌, ℕ, suc, Bool, true, false, List, [], ◌∷◌, ◌++◌, length, take, drop, refl, sym, ap, ◌∙◌, one-add}
 use Rattle.std.specs.List.{prefix_len, list_all}
 use Rattle.std.proofs.lemmas.Bool.{and_parts, and_from}
-use Rattle.cif_grammar.specs.Readers.{skip}
+use Rattle.cif_grammar.specs.Words.{skip}
 
 -- whether a first byte stands there and passes the test
 abbrev pub begins : (ℕ → Bool) → List ℕ → Bool

@@ -7,9 +7,9 @@ use Rattle.plane_geom.proofs.Options.{bind_some, map_some, guarded}
 use Rattle.cif_grammar.specs.declared.spelled.Number.{Number}
 use Rattle.cif_grammar.specs.declared.spelled.Signed.{Signed}
 use Rattle.cif_grammar.specs.declared.spelled.Spot.{Spot}
-use Rattle.cif_grammar.specs.Words.{is_blank, is_sep}
+use Rattle.cif_grammar.specs.Words.{is_blank, is_sep, skip}
 use Rattle.cif_grammar.specs.Grammar.{Transform, translate, mirror_x, mirror_y, rotate}
-use Rattle.cif_grammar.specs.Readers.{skip, behind, digits_at, sized_at, signed_in, signed_at, point_at, next_point_at, mirror_in, transform_in, transform_at}
+use Rattle.cif_grammar.specs.Readers.{behind, digits_at, sized_at, signed_in, signed_at, point_at, next_point_at, mirror_in, transform_in, transform_at}
 
 pair_is : {A B : Type 0} (a c : A) (b d : B) → ◌≡◌ {A = Option (A × B)} (Some (a, b)) (Some (c, d)) → (a ≡ c) × (b ≡ d)
 pair_is {A} {B} a c b d h =

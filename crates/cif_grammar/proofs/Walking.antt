@@ -8,9 +8,9 @@ use Rattle.std.proofs.lemmas.List.{length-append}
 use Rattle.std.proofs.lemmas.Option.{same_Some}
 use Rattle.plane_geom.specs.Texts.{◌>>=◌}
 use Rattle.plane_geom.proofs.Options.{bind_some, guarded}
-use Rattle.cif_grammar.specs.Words.{◌⋅◌, Takes, Literally, Run, is_blank}
+use Rattle.cif_grammar.specs.Words.{◌⋅◌, Takes, Literally, Run, is_blank, skip}
 use Rattle.cif_grammar.specs.Grammar.{Command, box, polygon, wire, layer, call, user, comment, start, finish, command, end, is_gap, Placed, may_stand, Stands, Items, Spells, Longest}
-use Rattle.cif_grammar.specs.Readers.{skip, body_at, command_at}
+use Rattle.cif_grammar.specs.Readers.{body_at, command_at}
 use Rattle.cif_grammar.proofs.Shorter.{skip_shorter}
 use Rattle.cif_grammar.proofs.Runs.{begins, skip_over, skip_stays}
 use Rattle.cif_grammar.proofs.Joins.{takes_then, then_at, run_takes, parts_of}

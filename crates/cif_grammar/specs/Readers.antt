@@ -1,6 +1,6 @@
 -- What the readers of words and commands give, on lists: each function here is what one function of the code computes.
 -- The grammar itself is in `Words` and `Grammar`. `total` is the length of the whole text, and `bytes` are its last ones.
-use Rattle.std.specs.Prelude.{ℕ, zero, suc, ◌+◌, ◌-◌, Bool, true, false, not, ◌==◌, List, [], ◌∷◌, length, take, drop, Option, Some, None, option_map, if◌then◌else◌, nat_lt, min}
+use Rattle.std.specs.Prelude.{ℕ, zero, suc, ◌+◌, ◌-◌, Bool, true, false, not, ◌==◌, List, [], ◌∷◌, length, take, Option, Some, None, option_map, if◌then◌else◌, nat_lt, min}
 use Rattle.std.specs.List.{prefix_len}
 use Rattle.std.specs.Char.{is_ascii_digit}
 use Rattle.std.specs.Str.Parse.{digits_value}
@@ -9,12 +9,8 @@ use Rattle.plane_geom.specs.Texts.{◌>>=◌}
 use Rattle.cif_grammar.specs.declared.spelled.Number.{Number}
 use Rattle.cif_grammar.specs.declared.spelled.Signed.{Signed}
 use Rattle.cif_grammar.specs.declared.spelled.Spot.{Spot}
-use Rattle.cif_grammar.specs.Words.{is_blank, is_sep, limit}
+use Rattle.cif_grammar.specs.Words.{is_blank, is_sep, limit, skip}
 use Rattle.cif_grammar.specs.Grammar.{Transform, translate, mirror_x, mirror_y, rotate, Command, box, polygon, wire, layer, call, user, comment, start, finish, is_gap}
-
--- what stands behind all first bytes that pass a test
-abbrev pub skip : (ℕ → Bool) → List ℕ → List ℕ
-skip test bytes = drop (prefix_len test bytes) bytes
 
 -- what stands behind one byte that passes a test
 abbrev pub behind : (ℕ → Bool) → List ℕ → Option (List ℕ)

@@ -1,6 +1,6 @@
 -- Words of a text, and how they follow one another.
-use Rattle.std.specs.Prelude.{◌≡◌, ℕ, ◌+◌, ◌<◌, Bool, true, not, ◌||◌, ◌==◌, List, [], ◌∷◌, ◌++◌, length, min}
-use Rattle.std.specs.List.{list_all}
+use Rattle.std.specs.Prelude.{◌≡◌, ℕ, ◌+◌, ◌<◌, Bool, true, not, ◌||◌, ◌==◌, List, [], ◌∷◌, ◌++◌, length, min, drop}
+use Rattle.std.specs.List.{list_all, prefix_len}
 use Rattle.std.specs.Char.{is_ascii_digit, is_ascii_uppercase}
 use Rattle.std.specs.Str.Parse.{AllDigits, digits_value}
 use Rattle.cif_grammar.specs.declared.spelled.Number.{Number}
@@ -47,6 +47,10 @@ Run test at bytes = list_all test bytes ≡ true
 -- A blank is any byte other than a digit, an upper-case letter, `-`, `(`, `)` and `;`.
 abbrev pub is_blank : ℕ → Bool
 is_blank b = not (is_ascii_digit b || is_ascii_uppercase b || b == 45 || b == 40 || b == 41 || b == 59)
+
+-- what stands behind all first bytes that pass a test
+abbrev pub skip : (ℕ → Bool) → List ℕ → List ℕ
+skip test bytes = drop (prefix_len test bytes) bytes
 
 -- what may stand before a number: an upper-case letter or a blank
 abbrev pub is_sep : ℕ → Bool

@@ -3,10 +3,10 @@
 ghost use Rattle.std.specs.Prelude.{◌≡◌, None, ◌≤◌, ◌-◌, ℕ, List, length, option_map, IfOk, IfSome};
 ghost use Rattle.std.specs.List.{prefix_len};
 ghost use Rattle.plane_geom.specs.Names.{is_short_byte};
-ghost use Rattle.cif_grammar.specs.Words.{◌⋅◌, Takes};
+ghost use Rattle.cif_grammar.specs.Words.{◌⋅◌, Takes, skip};
 ghost use Rattle.cif_grammar.specs.Grammar.{Command as Spelling, command, end, is_gap};
 ghost use Rattle.cif_grammar.specs.Seen.{seen};
-ghost use Rattle.cif_grammar.specs.Readers.{skip, or_none, next_point_at, box_at, polygon_at, width_at, wire_at, layer_at, layer_in, call_at, is_text, user_at, comment_at, two_at, start_at, definition_at, definition_in, body_at, semicolon_at, end_at, command_at};
+ghost use Rattle.cif_grammar.specs.Readers.{or_none, next_point_at, box_at, polygon_at, width_at, wire_at, layer_at, layer_in, call_at, is_text, user_at, comment_at, two_at, start_at, definition_at, definition_in, body_at, semicolon_at, end_at};
 
 use crate::calls::transformations_of;
 use crate::comment::after_comment;
@@ -236,22 +236,21 @@ fn after_end<'a>(command: &Command<'_>, bytes: &'a [u8]) -> Option<&'a [u8]>
 /// The command that `bytes` begin with, and the bytes behind its end: behind its `;` and all blanks and semicolons that
 /// follow. `None` exactly where no command with its end stands there.
 ///
-/// `bytes` are the last ones of a text of `total` bytes, and places are counted from where that text begins. Where
-/// `total` is less than the length of `bytes`, a place that would lie before the text is 0. The only error is want of
-/// memory for lists of points and transformations.
-#[tactic(auto, unfolding(crate::specs::Readers::command_at))]
+/// `bytes` are the last ones of a text of `total` bytes, and places are counted from where that text begins; where
+/// `total` is less than the length of `bytes`, from where `bytes` begin. The call `one_command` says that one command at
+/// most stands there. The only error is want of memory for lists of points and transformations.
 pub fn next_command<'a>(
     alloc: Global,
     total: usize,
     bytes: &'a [u8],
 ) -> Result<Option<(Command<'a>, &'a [u8])>, AllocError>
     // What is read is spelled there, and no blank or semicolon is left before the rest.
-    ensures found { IfOk result (λ found. IfSome found (λ x. length bytes.now ≤ total → Takes (command (seen x.0) ⋅ end (seen x.0)) (total - length bytes.now) bytes.now x.1.now)) }
+    ensures found { IfOk result (λ found. IfSome found (λ x. Takes (command (seen x.0) ⋅ end (seen x.0)) (total - length bytes.now) bytes.now x.1.now)) }
     ensures gaps { IfOk result (λ found. IfSome found (λ x. skip is_gap x.1.now ≡ x.1.now)) }
     // Where none is read, none is spelled, whatever would follow it.
-    ensures none { IfOk result (λ found. found ≡ None → length bytes.now ≤ total → (c : Spelling) (rest : List ℕ) → Takes (command c ⋅ end c) (total - length bytes.now) bytes.now rest → ⊥) }
-    ensures read { IfOk result (λ found. option_map (λ x. (seen x.0, x.1.now)) found ≡ command_at total bytes.now) }
+    ensures none { IfOk result (λ found. found ≡ None → (c : Spelling) (rest : List ℕ) → Takes (command c ⋅ end c) (total - length bytes.now) bytes.now rest → ⊥) }
 {
+    let total = total.max(bytes.len());
     let Some((command, rest)) = body_of(alloc, total, bytes)? else {
         return Ok(None);
     };

@@ -7,9 +7,9 @@ ghost use Rattle.std.specs.Prelude.{◌≡◌, ◌≤◌, ◌+◌, length, min, 
 ghost use Rattle.std.specs.List.{prefix_len};
 ghost use Rattle.std.specs.Char.{is_ascii_digit};
 ghost use Rattle.std.specs.Str.Parse.{AllDigits, digits_value};
-ghost use Rattle.cif_grammar.specs.Words.{is_blank as is_blank_lem, is_sep as is_sep_lem, limit};
+ghost use Rattle.cif_grammar.specs.Words.{is_blank as is_blank_lem, is_sep as is_sep_lem, limit, skip};
 ghost use Rattle.cif_grammar.specs.Grammar.{is_gap as is_gap_lem};
-ghost use Rattle.cif_grammar.specs.Readers.{skip, behind, digits_at, integer_at, sized_at, signed_at, point_at, next_at, next_point_at};
+ghost use Rattle.cif_grammar.specs.Readers.{behind, digits_at, integer_at, sized_at, signed_at, point_at, next_at, next_point_at};
 
 use crate::spelled::{Number, Signed, Spot};
 

@@ -8,7 +8,8 @@ use Rattle.plane_geom.proofs.Turning.{IsPlaceOf-unique}
 use Rattle.std.proofs.lemmas.Option.{same_Some}
 use Rattle.plane_geom.proofs.Options.{bind_some, guarded}
 use Rattle.cif_grammar.specs.Grammar.{Placed, is_inside, may_stand, Longest, is_gap}
-use Rattle.cif_grammar.specs.Readers.{skip, command_at}
+use Rattle.cif_grammar.specs.Words.{skip}
+use Rattle.cif_grammar.specs.Readers.{command_at}
 use Rattle.cif_grammar.proofs.Shorter.{skip_shorter}
 use Rattle.cif_grammar.proofs.Walking.{walk, and_next, walk_takes, walk_again, command_shorter, longest_one, spells_longest, one_spelling}
 use Rattle.cif_reader.specs.declared.refusal.CifRefusal.{CifRefusal}

@@ -13,4 +13,5 @@ pub mod Placing
 pub mod Reaching
 pub mod Starting
 pub mod Steps
+pub mod Standing
 pub mod Worked

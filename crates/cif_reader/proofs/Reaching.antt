@@ -4,7 +4,8 @@ use Rattle.std.specs.Prelude.{Option, Some, None, is_some}
 use Rattle.std.specs.Option.{option_or, option_and_then}
 use Rattle.std.proofs.lemmas.List.{length-append}
 use Rattle.cif_grammar.specs.Grammar.{Command, Placed, is_inside, may_stand, is_gap}
-use Rattle.cif_grammar.specs.Readers.{skip, command_at}
+use Rattle.cif_grammar.specs.Words.{skip}
+use Rattle.cif_grammar.specs.Readers.{command_at}
 use Rattle.cif_grammar.proofs.Walking.{walk, walk_more, walk_takes, stuck_none, stuck_barred, longest_here, command_shorter}
 use Rattle.cif_reader.specs.declared.refusal.CifRefusal.{CifRefusal}
 use Rattle.cif_reader.specs.declared.builder.Builder.{Builder}

@@ -1,6 +1,6 @@
 //! The whole text.
 
-ghost use Rattle.std.specs.Prelude.{◌≡◌, ◌⊎◌, IfOk, IfErr, is_some, option_map};
+ghost use Rattle.std.specs.Prelude.{◌≡◌, ◌⊎◌, ◌≤◌, IfOk, IfErr, is_some, length, option_map};
 ghost use Rattle.cif_grammar.specs.Seen.{seen};
 ghost use Rattle.cif_reader.specs.Faults.{Refuses, end_fault as end_fault_lem, is_delete as is_delete_lem};
 ghost use Rattle.cif_reader.specs.Reading.{Accepts};
@@ -45,7 +45,7 @@ fn next_standing<'a>(
     total: usize,
     bytes: &'a [u8],
 ) -> Result<Option<(Command<'a>, &'a [u8])>, AllocError>
-    ensures { IfOk result (λ found. option_map (λ x. (seen x.0, x.1.now)) found ≡ standing_at (is_some (opening_of builder.now.definition)) total bytes.now) }
+    ensures { IfOk result (λ found. length bytes.now ≤ total → option_map (λ x. (seen x.0, x.1.now)) found ≡ standing_at (is_some (opening_of builder.now.definition)) total bytes.now) }
 {
     let Some((command, rest)) = next_command(alloc, total, bytes)? else {
         return Ok(None);

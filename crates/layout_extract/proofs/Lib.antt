@@ -13,3 +13,4 @@ pub mod LayoutFacts
 pub mod MarkCounts
 pub mod SameLayouts
 pub mod Worked
+pub mod Existing

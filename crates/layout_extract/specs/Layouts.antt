@@ -33,6 +33,11 @@ pub record AreLayoutMasks (plan : Plan) (draws : List Draw) (masks : MaskLists) 
   pub cuts : AreMasks draws (cut_formulas plan) masks.cuts
   pub channels : AreMasks draws (channel_formulas plan) masks.channels
 
+-- The map has masks on the layout.
+pub record HasLayoutMasks (plan : Plan) (draws : List Draw) : Type 0 where
+  pub masks : MaskLists
+  pub are : AreLayoutMasks plan draws masks
+
 -- the nodes and cuts of the masks, with the labels
 abbrev pub labelled_by : Plan → MaskLists → List Mark → Labelled
 labelled_by plan masks marks = record { nets = traced_nets plan masks; plan = plan; marks = marks }

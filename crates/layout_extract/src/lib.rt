@@ -20,7 +20,7 @@ mod naming;
 mod refusal;
 mod tags;
 
-pub use laws::one_naming;
+pub use laws::{one_naming, some_layout_masks};
 pub use named::Named;
 pub use naming::name_nets;
 pub use refusal::LayoutRefusal;

@@ -4,3 +4,5 @@ pub mod Layering
 pub mod Evaluating
 pub mod Lines
 pub mod Worked
+pub mod Existing
+pub mod Covered

@@ -15,9 +15,10 @@ record Hull (points : List Point) (k : ℕ) : Type 0 where
   rect : Rect
   hull : IsHull points k rect
 
-record Reach (figure : Figure) : Type 0 where
-  rect : Rect
-  is : IsReach figure rect
+-- The shape has a reach.
+pub record Reach (figure : Figure) : Type 0 where
+  pub rect : Rect
+  pub is : IsReach figure rect
 
 hull_to : (p : Point) (ps : List Point) → All (IsPointWithin (2 ^ 60)) (p ∷ ps) → (k : ℕ) → k ≤ length (p ∷ ps) → Hull (p ∷ ps) k
 hull_to p ps near zero le =
@@ -52,7 +53,8 @@ path_reach half (p ∷ ps) some near =
     let h = hull_to p ps far (length (p ∷ ps)) (omega arith) in
     record { rect = thickened half h.rect; is = hull_reach_is (p ∷ ps) (length (p ∷ ps)) half h.rect (thickened half h.rect) (omega arith) h.hull refl }
 
-has_reach : (figure : Figure) → IsWellFormed figure → ((r : Rect) → IsReach figure r → IsRectWithin (2 ^ 24) r) → Reach figure
+-- A well-formed shape within the bound has a reach.
+pub has_reach : (figure : Figure) → IsWellFormed figure → ((r : Rect) → IsReach figure r → IsRectWithin (2 ^ 24) r) → Reach figure
 has_reach (block r) formed within =
     record {
       rect = r;

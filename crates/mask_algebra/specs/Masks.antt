@@ -34,3 +34,8 @@ pub record IsMask (draws : List Draw) (formula : Formula) (region : List Strip) 
 -- One region for each of the expressions, in their order.
 pub record AreMasks (draws : List Draw) (formulas : List Formula) (regions : List (List Strip)) : Type 0 where
   pub each : AllZip (IsMask draws) formulas regions
+
+-- The expressions have masks on the layout.
+pub record HaveMasks (draws : List Draw) (formulas : List Formula) : Type 0 where
+  pub regions : List (List Strip)
+  pub are : AreMasks draws formulas regions

@@ -28,6 +28,3 @@ pub use flattening::flatten;
 pub use laws::{one_flattening, read_calls_are_apart};
 pub use refusal::FlattenRefusal;
 pub use sizes::{Size, unfolded_size};
-
-#[cfg(test)]
-mod tests;

@@ -14,7 +14,5 @@
 mod canvas;
 mod evaluation;
 mod layers;
-#[cfg(test)]
-mod tests;
 
 pub use evaluation::evaluate;

@@ -1,7 +1,9 @@
 //! Nets of small layouts, and their names.
 
-use crate::{LayoutRefusal, Named, name_nets};
+use crate::fixtures::file;
+use defect_sweep::{SideWeight, are_sides, counts};
 use layer_map::LayerMap;
+use layout_extract::{LayoutRefusal, Named, name_nets};
 use std::alloc::{AllocError, Global};
 use std::test::Fail;
 
@@ -14,16 +16,16 @@ high Vdd Vcc
 low GND Vss
 ";
 
-/// The map of all rows.
-fn map(alloc: Global) -> Result<LayerMap, Fail> {
-    Ok(layer_map::read(alloc, MAP.as_bytes())?)
+/// What naming the nets of this text under the map gives.
+fn name_under(alloc: Global, map: &str, text: &str) -> Result<Result<Named, LayoutRefusal>, Fail> {
+    let file = file(alloc, text)?;
+    let map: LayerMap = layer_map::read(alloc, map.as_bytes())?;
+    Ok(name_nets(alloc, &file, &map))
 }
 
 /// What naming the nets of this text gives.
 fn name(alloc: Global, text: &str) -> Result<Result<Named, LayoutRefusal>, Fail> {
-    let file = cif_reader::read(alloc, text.as_bytes())?;
-    let map = map(alloc)?;
-    Ok(name_nets(alloc, &file, &map))
+    name_under(alloc, MAP, text)
 }
 
 /// The names of the nets, each with a blank behind it.
@@ -142,5 +144,48 @@ fn labels_of_two_pieces_are_refused(rt: HostRuntime) -> Result<(), Fail> {
     let text = "L CMF;B 20 20 10 10;B 20 20 30 30;94 A 20 20 CMF;94 B 20 20;E";
     let answer = name(rt.alloc(), text)?;
     assert!(rt; matches!(answer, Err(LayoutRefusal::LabelAmbiguous(34))));
+    Ok(())
+}
+
+/// Two metals, and cuts between them.
+const METALS: &str = "wire m1 CMF
+wire m2 CMS
+cut CVA : m1 m2
+high Vdd
+low GND
+";
+
+/// How many pairs of nets a defect of one cell bridges.
+fn bridge_count(alloc: Global, named: &Named) -> Result<usize, Fail> {
+    let cell = SideWeight {
+        cells: 1,
+        weight: 1,
+    };
+    let sides = [cell];
+    if !are_sides(&sides) {
+        return Err("no sides".into());
+    }
+    Ok(counts(alloc, named.traced(), &sides)?.list().len())
+}
+
+#[test]
+fn a_cut_makes_one_net_of_two_metals(rt: HostRuntime) -> Result<(), Fail> {
+    let rows = [
+        (
+            "L CMF; B 10 10 5 5; L CMS; B 10 10 5 5; L CVA; B 2 2 5 5; 94 Vdd 5 5; E",
+            "Vdd ",
+        ),
+        (
+            "L CMF; B 10 10 5 5; L CMS; B 10 10 5 5; 94 Vdd 5 5; E",
+            "Vdd #1 ",
+        ),
+    ];
+    for (text, expected) in rows {
+        let named = name_under(rt.alloc(), METALS, text)??;
+        let found = names(rt.alloc(), &named)?;
+        assert!(rt; found.as_slice() == expected.as_bytes(), "{}", text);
+        assert_eq!(rt; named.tallies(), (1, 0, 0), "{}", text);
+        assert_eq!(rt; bridge_count(rt.alloc(), &named)?, 0, "{}", text);
+    }
     Ok(())
 }

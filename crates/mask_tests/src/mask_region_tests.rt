@@ -195,6 +195,17 @@ fn finds_a_cell(rt: HostRuntime) -> Result<(), Fail> {
 }
 
 #[test]
+fn a_square_inside_leaves_a_frame(rt: HostRuntime) -> Result<(), Fail> {
+    let outer = region(rt.alloc(), &[(0, 0, 4, 4)])?;
+    let inner = region(rt.alloc(), &[(1, 1, 3, 3)])?;
+    let frame = outer.minus(rt.alloc(), &inner)?;
+    assert_eq!(rt; frame.area(), 12);
+    assert!(rt; !frame.has(Point { x: 1, y: 1 }));
+    assert!(rt; frame.has(Point { x: 0, y: 1 }));
+    Ok(())
+}
+
+#[test]
 fn lends_its_regions(rt: HostRuntime) -> Result<(), Fail> {
     let mut wires = Vec::new(rt.alloc());
     let mut cuts = Vec::new(rt.alloc());

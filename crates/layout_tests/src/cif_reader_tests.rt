@@ -1,6 +1,7 @@
 //! Texts that are read, and texts that are refused.
 
-use crate::{CifFile, CifRefusal, Feature, What, read};
+use crate::fixtures::repeated;
+use cif_reader::{CifFile, CifRefusal, Feature, What, read};
 use plane_geom::{Place, Point, Rect, Shape, Turn};
 use std::alloc::{AllocError, Global};
 use std::test::Fail;
@@ -105,23 +106,6 @@ fn reads_what_has_no_fault(rt: HostRuntime) {
     ] {
         assert!(rt; is_read(alloc, text.as_bytes()), "{text}");
     }
-}
-
-/// The bytes so many times, between a front and an end.
-fn repeated(
-    alloc: Global,
-    front: &[u8],
-    part: &[u8],
-    count: usize,
-    end: &[u8],
-) -> Result<Vec<u8>, AllocError> {
-    let mut text = Vec::new(alloc);
-    text.extend_from_slice(front)?;
-    for _ in 0..count {
-        text.extend_from_slice(part)?;
-    }
-    text.extend_from_slice(end)?;
-    Ok(text)
 }
 
 #[test]

@@ -1,10 +1,10 @@
 //! Files that are measured and flattened, and their faults.
 
-use crate::{
+use crate::fixtures::file;
+use cif_flatten::{
     Draw, Flat, FlattenRefusal, Size, UndefinedCall, flatten, recursive_symbol, undefined_call,
     unfolded_size,
 };
-use cif_reader::read;
 use plane_geom::Shape;
 use std::test::Fail;
 
@@ -61,9 +61,7 @@ const SIZES: [(&str, Option<Size>); 6] = [
 fn the_first_undefined_call_is_found(rt: HostRuntime) -> Result<(), Fail> {
     let alloc = rt.alloc();
     for (text, call) in CALLS {
-        let Ok(file) = read(alloc, text.as_bytes()) else {
-            return Err(Fail::from(text));
-        };
+        let file = file(alloc, text)?;
         assert_eq!(rt; undefined_call(&file), call, "{text}");
     }
     Ok(())
@@ -73,9 +71,7 @@ fn the_first_undefined_call_is_found(rt: HostRuntime) -> Result<(), Fail> {
 fn files_are_measured_and_recursion_is_found(rt: HostRuntime) -> Result<(), Fail> {
     let alloc = rt.alloc();
     for (text, size) in SIZES {
-        let Ok(file) = read(alloc, text.as_bytes()) else {
-            return Err(Fail::from(text));
-        };
+        let file = file(alloc, text)?;
         assert_eq!(rt; unfolded_size(alloc, &file)?, size, "{text}");
     }
     Ok(())
@@ -98,9 +94,7 @@ const CIRCLES: [(&str, Option<u32>); 6] = [
 fn the_least_symbol_that_calls_itself_is_found(rt: HostRuntime) -> Result<(), Fail> {
     let alloc = rt.alloc();
     for (text, symbol) in CIRCLES {
-        let Ok(file) = read(alloc, text.as_bytes()) else {
-            return Err(Fail::from(text));
-        };
+        let file = file(alloc, text)?;
         assert_eq!(rt; recursive_symbol(alloc, &file)?, symbol, "{text}");
     }
     Ok(())
@@ -203,9 +197,7 @@ fn counts(flat: Result<Flat, FlattenRefusal>) -> Result<(usize, usize), FlattenR
 fn files_are_flattened_or_refused(rt: HostRuntime) -> Result<(), Fail> {
     let alloc = rt.alloc();
     for (text, outcome) in OUTCOMES {
-        let Ok(file) = read(alloc, text.as_bytes()) else {
-            return Err(Fail::from(text));
-        };
+        let file = file(alloc, text)?;
         assert_eq!(rt; counts(flatten(alloc, &file)), outcome, "{text}");
     }
     Ok(())
@@ -232,12 +224,7 @@ fn left(draw: &Draw) -> Option<i64> {
 #[test]
 fn transformations_apply_from_left_to_right(rt: HostRuntime) -> Result<(), Fail> {
     let alloc = rt.alloc();
-    let Ok(file) = read(alloc, TURNED.as_bytes()) else {
-        return Err(Fail::from(TURNED));
-    };
-    let Ok(flat) = flatten(alloc, &file) else {
-        return Err(Fail::from(TURNED));
-    };
+    let flat = flatten(alloc, &file(alloc, TURNED)?)?;
     assert_eq!(rt; flat.draws().len(), LEFTS.len());
     for (draw, x) in flat.draws().iter().zip(LEFTS) {
         assert_eq!(rt; left(draw), Some(x));

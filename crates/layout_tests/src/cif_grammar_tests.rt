@@ -1,6 +1,6 @@
 //! Commands that are read, and bytes that begin with none.
 
-use crate::{Command, Number, Signed, Spot, Transformation, next_command};
+use cif_grammar::{Command, Number, Signed, Spot, Transformation, next_command};
 use std::alloc::{AllocError, Global};
 use std::test::Fail;
 

@@ -25,6 +25,3 @@ pub use formulas::{Formula, solves};
 pub use laws::{one_answer, tautology_or_apart, teaching_is_new, teaching_is_no_superset};
 pub use literals::Lit;
 pub use reading::read_formula;
-
-#[cfg(test)]
-mod tests;

@@ -18,6 +18,3 @@ mod marks;
 pub use checker::Checker;
 pub use hints::StepRefusal;
 pub use laws::{derivation_refutes, following_is_true, one_fault};
-
-#[cfg(test)]
-mod tests;

@@ -1,7 +1,8 @@
 //! Tests of stores and arenas.
 
-use crate::{Arena, Store};
-use clause_base::{Lit, normal};
+use crate::fixtures::lits;
+use clause_arena::{Arena, Store};
+use clause_base::normal;
 use std::test::Fail;
 
 #[test]
@@ -15,10 +16,7 @@ fn references_give_their_clauses(rt: HostRuntime) -> Result<(), Fail> {
     ];
     let mut arena = Arena::new(alloc);
     for (numbers, sorted) in rows {
-        let lits: Vec<Lit> = numbers
-            .iter()
-            .filter_map(|number| Lit::new(*number))
-            .collect(alloc)?;
+        let lits = lits(alloc, numbers)?;
         let clause = normal(alloc, lits.as_slice())?.ok_or("no tautology")?;
         let at = arena.add(clause.as_slice())?;
         let kept = arena.lits(at);
@@ -39,10 +37,7 @@ fn a_store_keeps_clauses_as_they_are(rt: HostRuntime) -> Result<(), Fail> {
     let rows: [&[i32]; 4] = [&[2, -1, 2], &[], &[1, -1], &[3]];
     let mut store = Store::new(alloc);
     for numbers in rows {
-        let lits: Vec<Lit> = numbers
-            .iter()
-            .filter_map(|number| Lit::new(*number))
-            .collect(alloc)?;
+        let lits = lits(alloc, numbers)?;
         let place = store.len();
         store.add(lits.as_slice())?;
         assert_eq!(rt; store.clause(place), lits.as_slice());

@@ -1,13 +1,13 @@
 //! Tests of the checker.
 
-use crate::{Checker, StepRefusal};
-use clause_base::read_formula;
+use crate::fixtures::formula;
+use refutation_check::{Checker, StepRefusal};
 use std::alloc::Global;
 use std::test::Fail;
 
 /// Takes the clauses of the formula as given.
-fn give(alloc: Global, checker: &mut Checker, formula: &[u8]) -> Result<(), Fail> {
-    let formula = read_formula(alloc, formula).map_err(|_| Fail::from("a formula"))?;
+fn give(alloc: Global, checker: &mut Checker, text: &[u8]) -> Result<(), Fail> {
+    let formula = formula(alloc, text)?;
     for clause in formula.clauses() {
         if clause.is_within(checker.vars()) {
             checker.axiom(clause.as_slice())?;
@@ -20,10 +20,10 @@ fn give(alloc: Global, checker: &mut Checker, formula: &[u8]) -> Result<(), Fail
 fn tried(
     alloc: Global,
     checker: &mut Checker,
-    formula: &[u8],
+    text: &[u8],
     hints: &[u64],
 ) -> Result<Option<Result<(), StepRefusal>>, Fail> {
-    let formula = read_formula(alloc, formula).map_err(|_| Fail::from("a formula"))?;
+    let formula = formula(alloc, text)?;
     match formula.clauses().first() {
         Some(clause) if clause.is_within(checker.vars()) => {
             Ok(Some(checker.step(clause.as_slice(), hints)))

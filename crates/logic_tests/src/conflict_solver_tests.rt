@@ -2,9 +2,9 @@
 
 ghost use Rattle.std.specs.Prelude.{◌≡◌, ◌<◌, true, []};
 
-use crate::{SolveFault, Verdict, solve};
-use clause_base::read_formula;
-use proof_sinks::{ProofSink, StepCheck, StepFail, StepList, StepPair};
+use crate::fixtures::formula;
+use conflict_solver::{SolveFault, Verdict, solve};
+use proof_sinks::{ProofSink, Said, StepCheck, StepFail, StepList, StepPair};
 use refutation_check::Checker;
 use std::test::Fail;
 
@@ -55,7 +55,7 @@ fn derivations_are_checked(rt: HostRuntime) -> Result<(), Fail> {
         if budget == 0 {
             continue;
         }
-        let formula = read_formula(alloc, text).map_err(|_| Fail::from("a formula"))?;
+        let formula = formula(alloc, text)?;
         let check = StepCheck::new(alloc, Checker::new(alloc, formula.vars())?);
         let mut pair = StepPair::new(StepList::new(alloc), check);
         let Ok(verdict) = solve(alloc, &formula, budget, &mut pair) else {
@@ -77,7 +77,7 @@ fn each_line_may_fail(rt: HostRuntime) -> Result<(), Fail> {
     let alloc = rt.alloc();
     let rows: [&[u8]; 2] = [PIGEONS, SQUARE];
     for text in rows {
-        let formula = read_formula(alloc, text).map_err(|_| Fail::from("a formula"))?;
+        let formula = formula(alloc, text)?;
         let mut is_done = false;
         for call in 0..1000 {
             let mut sink = StepFail::new(StepList::new(alloc), call);
@@ -92,5 +92,26 @@ fn each_line_may_fail(rt: HostRuntime) -> Result<(), Fail> {
         }
         assert!(rt; is_done, "no run met all its calls");
     }
+    Ok(())
+}
+
+/// How many literals the first derived clause has.
+fn first_derived(lines: &[Said]) -> Option<usize> {
+    for line in lines {
+        if let Said::Derived(clause, _) = line {
+            return Some(clause.as_slice().len());
+        }
+    }
+    None
+}
+
+#[test]
+fn a_unit_clause_comes_first(rt: HostRuntime) -> Result<(), Fail> {
+    let alloc = rt.alloc();
+    let formula = formula(alloc, BRANCHES)?;
+    let mut list = StepList::new(alloc);
+    let verdict = solve(alloc, &formula, 1, &mut list)?;
+    assert_eq!(rt; end_of(&verdict), End::Refuted);
+    assert_eq!(rt; first_derived(list.lines()), Some(1));
     Ok(())
 }

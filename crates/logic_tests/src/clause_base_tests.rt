@@ -1,16 +1,8 @@
 //! Tests of literals, clauses, formulas and their texts.
 
-use crate::{Clause, Formula, FormulaFault, Lit, distinct, normal, read_formula, solves};
-use std::alloc::{AllocError, Global};
+use crate::fixtures::{formula, lits};
+use clause_base::{Clause, Formula, FormulaFault, Lit, distinct, normal, read_formula, solves};
 use std::test::Fail;
-
-/// The literals of these numbers.
-fn lits(alloc: Global, numbers: &[i32]) -> Result<Vec<Lit>, AllocError> {
-    numbers
-        .iter()
-        .filter_map(|number| Lit::new(*number))
-        .collect(alloc)
-}
 
 #[test]
 fn literals_are_numbers_but_two(rt: HostRuntime) -> Result<(), Fail> {
@@ -99,9 +91,7 @@ fn texts_spell_formulas(rt: HostRuntime) -> Result<(), Fail> {
         (b"p cnf 1000000 1 -1000000 0", 1_000_000, &[&[-1_000_000]]),
     ];
     for (text, vars, clauses) in rows {
-        let Ok(formula) = read_formula(alloc, text) else {
-            return Err(Fail::from("a formula"));
-        };
+        let formula = formula(alloc, text)?;
         assert_eq!(rt; formula.vars(), vars);
         assert_eq!(rt; formula.clauses().len(), clauses.len());
         for (clause, numbers) in formula.clauses().iter().zip(clauses) {

@@ -4,7 +4,7 @@ use cif_grammar::{Command, Number, Signed, Spot, Transformation, next_command};
 use std::alloc::{AllocError, Global};
 use std::test::Fail;
 
-/// The kind of the next command of a whole text, and how many bytes stand behind it.
+/// The kind of the next command of a whole text, and how many bytes stand after it.
 fn next_kind(alloc: Global, text: &[u8]) -> Result<(&'static str, usize), AllocError> {
     let found = next_command(alloc, text.len(), text)?;
     Ok(match found {
@@ -48,7 +48,7 @@ fn plus(at: usize, value: u64) -> Signed {
 
 #[test]
 fn reads_each_kind(rt: HostRuntime) -> Result<(), Fail> {
-    for (text, kind, behind) in [
+    for (text, kind, left) in [
         ("B10,20,30,40;\nE", "box", 1),
         ("BOX LENGTH 25 WIDTH 60 CENTER 80,40;", "box", 0),
         ("B 1 2 3 4 0 -1 ; ;; E", "directed box", 1),
@@ -79,7 +79,7 @@ fn reads_each_kind(rt: HostRuntime) -> Result<(), Fail> {
     ] {
         assert_eq!(rt;
             next_kind(rt.alloc(), text.as_bytes())?,
-            (kind, behind),
+            (kind, left),
             "{text}"
         );
     }

@@ -137,8 +137,8 @@ fn reads_long_commands(rt: HostRuntime) -> Result<(), Fail> {
         ),
         (b"", b"(", 100_000, b");E", Some(CifRefusal::Syntax(0))),
     ];
-    for (front, part, count, end, refusal) in rows {
-        let text = repeated(alloc, front, part, count, end)?;
+    for (start, part, count, end, refusal) in rows {
+        let text = repeated(alloc, start, part, count, end)?;
         assert!(rt; refusal_of(alloc, text.as_slice()) == refusal);
     }
     let open = repeated(alloc, b"", b"(", 100_000, b"")?;

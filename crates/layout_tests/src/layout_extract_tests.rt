@@ -28,7 +28,7 @@ fn name(alloc: Global, text: &str) -> Result<Result<Named, LayoutRefusal>, Fail>
     name_under(alloc, MAP, text)
 }
 
-/// The names of the nets, each with a blank behind it.
+/// The names of the nets, each with a blank after it.
 fn names(alloc: Global, named: &Named) -> Result<Vec<u8>, AllocError> {
     let mut text = Vec::new(alloc);
     for name in named.names() {
@@ -38,7 +38,7 @@ fn names(alloc: Global, named: &Named) -> Result<Vec<u8>, AllocError> {
     Ok(text)
 }
 
-/// Layouts of poly, metal and cuts, and the names of their nets, each with a blank behind it.
+/// Layouts of poly, metal and cuts, and the names of their nets, each with a blank after it.
 const NETS: [(&str, &str, &str); 7] = [
     ("a cut alone", "L CCP;B 2 2 1 1;E", ""),
     ("corners meet", "L CPG;B 2 2 1 1;B 2 2 3 3;E", "#0 #1 "),
@@ -75,7 +75,7 @@ fn nets_are_counted(rt: HostRuntime) -> Result<(), Fail> {
     Ok(())
 }
 
-/// The labels of two blocks of metal, the names of the nets, each with a blank behind it, and how many labels are bound,
+/// The labels of two blocks of metal, the names of the nets, each with a blank after it, and how many labels are bound,
 /// are not bound and stand deep.
 type Row = (&'static str, &'static str, (u32, u32, u32));
 

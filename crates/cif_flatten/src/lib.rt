@@ -28,6 +28,3 @@ pub use flattening::flatten;
 pub use laws::{flattened_within_range, one_flattening, read_calls_are_apart, some_unfolding};
 pub use refusal::FlattenRefusal;
 pub use sizes::{Size, unfolded_size};
-
-#[cfg(test)]
-mod tests;

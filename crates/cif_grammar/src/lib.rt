@@ -17,8 +17,6 @@ mod comment;
 mod laws;
 mod path;
 mod spelled;
-#[cfg(test)]
-mod tests;
 mod words;
 
 pub use command::next_command;

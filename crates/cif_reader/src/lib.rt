@@ -18,8 +18,6 @@ mod measure;
 mod path;
 mod reading;
 mod refusal;
-#[cfg(test)]
-mod tests;
 
 pub use file::{CifFile, Item, Symbol, What};
 pub use laws::one_answer;

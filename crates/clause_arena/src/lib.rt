@@ -11,6 +11,3 @@ mod store;
 
 pub use arena::{Arena, ClauseRef};
 pub use store::Store;
-
-#[cfg(test)]
-mod tests;

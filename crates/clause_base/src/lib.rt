@@ -29,6 +29,3 @@ pub use laws::{
 pub use literals::Lit;
 pub use numbers::read_decimal;
 pub use reading::read_formula;
-
-#[cfg(test)]
-mod tests;

@@ -20,6 +20,3 @@ mod verdict;
 pub use laws::{few_new_lines, lines_are_new};
 pub use solving::solve;
 pub use verdict::{SolveFault, Verdict};
-
-#[cfg(test)]
-mod tests;

@@ -24,6 +24,3 @@ pub use laws::{one_naming, some_layout_masks};
 pub use named::Named;
 pub use naming::name_nets;
 pub use refusal::LayoutRefusal;
-
-#[cfg(test)]
-mod tests;

@@ -1,7 +1,8 @@
 //! Maps, and texts that are none.
 
+use crate::fixtures::repeated;
 use layer_map::{LayerMap, MapRefusal, Side, read};
-use std::alloc::{AllocError, Global};
+use std::alloc::Global;
 use std::test::Fail;
 
 /// The map of a CMOS cell.
@@ -22,24 +23,6 @@ low GND
 /// The refusal of a text, if it is refused.
 fn refusal(alloc: Global, text: &[u8]) -> Option<MapRefusal> {
     read(alloc, text).err()
-}
-
-/// The word so many times.
-fn repeated(alloc: Global, word: &[u8], times: usize) -> Result<Vec<u8>, AllocError> {
-    let mut text = Vec::new(alloc);
-    for _ in 0..times {
-        text.extend_from_slice(word)?;
-    }
-    Ok(text)
-}
-
-/// A text of three parts and the supplies.
-fn joined(alloc: Global, front: &[u8], middle: &[u8], back: &[u8]) -> Result<Vec<u8>, AllocError> {
-    let mut text = Vec::from_slice(alloc, front)?;
-    text.extend_from_slice(middle)?;
-    text.extend_from_slice(back)?;
-    text.extend_from_slice(b"\nhigh Vdd\nlow GND\n")?;
-    Ok(text)
 }
 
 #[test]
@@ -87,32 +70,48 @@ fn refuses_the_first_fault(rt: HostRuntime) {
     }
 }
 
+/// The lines of sixteen wires.
+const WIRES: &[u8] = b"wire a A
+wire b A
+wire c A
+wire d A
+wire e A
+wire f A
+wire g A
+wire h A
+wire i A
+wire j A
+wire k A
+wire l A
+wire m A
+wire n A
+wire o A
+wire p A
+";
+
 #[test]
 fn keeps_to_the_limits(rt: HostRuntime) -> Result<(), Fail> {
     let alloc = rt.alloc();
-    let bangs = repeated(alloc, b"!", 32)?;
-    let more_bangs = repeated(alloc, b"!", 33)?;
-    let layers = repeated(alloc, b"CMF+", 63)?;
-    let more_layers = repeated(alloc, b"CMF+", 64)?;
-    let names = repeated(alloc, b" Vdd", 33)?;
     let too_many = Some(MapRefusal::TooMany(1));
-    let deep = joined(alloc, b"wire metal ", &bangs, b"CMF")?;
-    assert!(rt; refusal(alloc, &deep) == None);
-    let deeper = joined(alloc, b"wire metal ", &more_bangs, b"CMF")?;
-    assert!(rt; refusal(alloc, &deeper) == too_many);
-    let bad = joined(alloc, b"wire metal ", &more_bangs, b"+CMF")?;
-    assert!(rt; refusal(alloc, &bad) == Some(MapRefusal::BadLine(1)));
-    let wide = joined(alloc, b"wire metal ", &layers, b"CMF")?;
-    assert!(rt; refusal(alloc, &wide) == None);
-    let wider = joined(alloc, b"wire metal ", &more_layers, b"CMF")?;
-    assert!(rt; refusal(alloc, &wider) == too_many);
-    let wires =
-        b"wire a A\nwire b A\nwire c A\nwire d A\nwire e A\nwire f A\nwire g A\nwire h A\nwire i A\nwire j A\nwire k A\nwire l A\nwire m A\nwire n A\nwire o A\nwire p A\n";
-    let sixteen = joined(alloc, wires, b"", b"# no more")?;
-    assert!(rt; refusal(alloc, &sixteen) == None);
-    let seventeen = joined(alloc, wires, b"", b"wire p A")?;
-    assert!(rt; refusal(alloc, &seventeen) == Some(MapRefusal::TooMany(17)));
-    let many = joined(alloc, b"high", &names, b"")?;
-    assert!(rt; refusal(alloc, &many) == too_many);
+    let bad = Some(MapRefusal::BadLine(1));
+    let metal = b"CMF\nhigh Vdd\nlow GND\n";
+    let plus_metal = b"+CMF\nhigh Vdd\nlow GND\n";
+    let supplies = b"\nhigh Vdd\nlow GND\n";
+    let comment = b"# no more\nhigh Vdd\nlow GND\n";
+    let wire = b"wire p A\nhigh Vdd\nlow GND\n";
+    let rows: [(&[u8], &[u8], usize, &[u8], Option<MapRefusal>); 8] = [
+        (b"wire metal ", b"!", 32, metal, None),
+        (b"wire metal ", b"!", 33, metal, too_many),
+        (b"wire metal ", b"!", 33, plus_metal, bad),
+        (b"wire metal ", b"CMF+", 63, metal, None),
+        (b"wire metal ", b"CMF+", 64, metal, too_many),
+        (b"high", b" Vdd", 33, supplies, too_many),
+        (WIRES, b"", 0, comment, None),
+        (WIRES, b"", 0, wire, Some(MapRefusal::TooMany(17))),
+    ];
+    for (start, part, count, end, fault) in rows {
+        let text = repeated(alloc, start, part, count, end)?;
+        assert!(rt; refusal(alloc, text.as_slice()) == fault);
+    }
     Ok(())
 }

@@ -15,8 +15,6 @@ mod canvas;
 mod evaluation;
 mod laws;
 mod layers;
-#[cfg(test)]
-mod tests;
 
 pub use evaluation::evaluate;
 pub use laws::some_masks;

@@ -21,6 +21,3 @@ pub use laws::{
     accepted_lines_are_a_derivation, derivation_grows, derivation_refutes, following_is_true,
     one_fault,
 };
-
-#[cfg(test)]
-mod tests;

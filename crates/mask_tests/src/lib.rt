@@ -1,0 +1,18 @@
+//! The tests of the crates that place and cut shapes, make masks of them, join what touches and sweep defects.
+//!
+//! Each module tests the crate of its name. A test calls public items alone, on rows whose answers come from outside. The
+//! tests stand apart from the crates, since the tests of a crate are checked together with all of its proofs.
+#![tactic(auto)]
+
+#[cfg(test)]
+mod defect_sweep_tests;
+#[cfg(test)]
+mod link_classes_tests;
+#[cfg(test)]
+mod mask_algebra_tests;
+#[cfg(test)]
+mod mask_region_tests;
+#[cfg(test)]
+mod plane_geom_tests;
+#[cfg(test)]
+mod shape_cut_tests;

@@ -1,6 +1,4 @@
 mod Worked
-mod Texts
-mod Printed
 mod Sorted
 mod Literals
 mod Reported

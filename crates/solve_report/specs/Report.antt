@@ -102,12 +102,18 @@ pub record WritesReport (file : Clauses) (budget : ℕ) (ending : Ending) (old n
   pub report : IsSolveReport file budget ending text
   pub written : Appends old new text
 
--- a front of a report, or of one so far, was appended
+-- a report so far was appended
+pub record AppendsReportSoFar (file : Clauses) (budget : ℕ) (old new : Option (List ℕ)) : Type 0 where
+  pub text : List ℕ
+  pub report : IsReportSoFar file budget text
+  pub written : Appends old new text
+
+-- nothing was written, or a report so far
+abbrev pub WritesReportSoFar : Clauses → ℕ → Option (List ℕ) → Option (List ℕ) → Type 0
+WritesReportSoFar file budget old new = (new ≡ old) ⊎ AppendsReportSoFar file budget old new
+
+-- a prefix of a report, or of one so far, was appended
 pub record AppendsReportFront (file : Clauses) (budget : ℕ) (old new : Option (List ℕ)) : Type 0 where
   pub text : List ℕ
   pub report : IsReportOrSoFar file budget text
   pub written : AppendsFront old new text
-
--- nothing was written, or such a front
-abbrev pub WritesFront : Clauses → ℕ → Option (List ℕ) → Option (List ℕ) → Type 0
-WritesFront file budget old new = (new ≡ old) ⊎ AppendsReportFront file budget old new

@@ -20,10 +20,10 @@ pub enum Ending {
 /// Why a report is not whole.
 #[derive(Clone, Copy, Debug, PartialEq, Eq, Error)]
 pub enum ReportFault {
-    /// A write failed: the count of faults of the sink of text rose. A front of the report was written.
+    /// A write failed: the count of faults of the sink of text rose. A prefix of a report was written.
     #[error("the report could not be written")]
     Write,
-    /// No memory was found, and no write failed. A front of the report was written, or nothing.
+    /// No memory was found. The lines of the report so far were written, or nothing.
     #[error("out of memory")]
     NoMemory,
 }

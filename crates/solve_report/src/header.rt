@@ -1,39 +1,26 @@
 //! The lines of a report before its clauses.
 
-ghost use Rattle.std.specs.Prelude.{OnOk, OnErr};
-ghost use Rattle.probe_io.specs.Causes.{HasCause};
-ghost use Rattle.probe_io.specs.Written.{Appends, AppendsFront};
+ghost use Rattle.std.specs.Prelude.{◌≡◌, IfOk};
 ghost use Rattle.solve_report.specs.Report.{numbers_text, header};
 
 use clause_base::Formula;
-use probe_io::{Failed, Piece, Sink, put_pieces};
+use std::alloc::{AllocError, Global};
 
-/// Writes the lines before the clauses.
-pub(crate) fn put_header<K: Sink>(out: &mut K, budget: u32, formula: &Formula) -> Result<(), Failed>
-    ensures ok { OnOk result (Appends (K.written out.old) (K.written out.new) (header budget formula.now)) }
-    ensures front { OnErr result (AppendsFront (K.written out.old) (K.written out.new) (header budget formula.now)) }
-    ensures cause { HasCause (K.faults out.old) (K.faults out.new) result }
+/// The lines before the clauses. It fails only where no memory is found.
+pub(crate) fn header_text(
+    alloc: Global,
+    budget: u32,
+    formula: &Formula,
+) -> Result<String, AllocError>
+    ensures { IfOk result (λ text. text.bytes.items ≡ header budget formula.now) }
 {
-    put_numbers(out, budget, formula.vars(), formula.clauses().len())
+    numbers(alloc, budget, formula.vars(), formula.clauses().len())
 }
 
-/// Writes the command and the numbers.
+/// The command and the numbers.
 #[tactic(auto, unfolding(crate::specs::Report::numbers_text))]
-fn put_numbers<K: Sink>(out: &mut K, budget: u32, vars: u32, clauses: usize) -> Result<(), Failed>
-    ensures ok { OnOk result (Appends (K.written out.old) (K.written out.new) (numbers_text budget vars clauses)) }
-    ensures front { OnErr result (AppendsFront (K.written out.old) (K.written out.new) (numbers_text budget vars clauses)) }
-    ensures cause { HasCause (K.faults out.old) (K.faults out.new) result }
+fn numbers(alloc: Global, budget: u32, vars: u32, clauses: usize) -> Result<String, AllocError>
+    ensures { IfOk result (λ text. text.bytes.items ≡ numbers_text budget vars clauses) }
 {
-    put_pieces(
-        out,
-        &[
-            Piece::Text(b"carafe solve 1\nbudget "),
-            Piece::Number(budget as u64),
-            Piece::Text(b"\nformula "),
-            Piece::Number(vars as u64),
-            Piece::Text(b" "),
-            Piece::Number(clauses as u64),
-            Piece::Text(b"\n"),
-        ],
-    )
+    format!(in alloc; "carafe solve 1\nbudget {budget}\nformula {vars} {clauses}\n")
 }

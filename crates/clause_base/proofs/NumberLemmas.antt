@@ -92,22 +92,30 @@ over_most word most small is none = record {
 }
 
 -- what has no error is a text
-pub is_text : {S E : Type 0} (P : S → Type 0) (N : E → Type 0) (result : Result S E) → MatchResult result P N → ((e : E) → N e → ⊥) → is_ok result ≡ true
+pub is_text : {S E : Type 0} (P : S → Type 0) (N : E → Type 0) (result : Result S E) → MatchResult result P N
+    → ((e : E) → N e → ⊥) → is_ok result ≡ true
 is_text P N (Ok s) h none = refl
 is_text P N (Err e) h none = absurd (none e h)
 
 -- what is known of it
-pub text_is : {S E : Type 0} (P : S → Type 0) (N : E → Type 0) (result : Result S E) (found : Option S) (s : S) → MatchResult result P N → found ≡ result_ok result → found ≡ Some s → P s
+pub text_is : {S E : Type 0} (P : S → Type 0) (N : E → Type 0) (result : Result S E) (found : Option S) (s : S) → MatchResult result P N
+    → found ≡ result_ok result → found ≡ Some s → P s
 text_is P N (Ok x) found s h given is = subst P (let same : Some x ≡ Some s = sym given ∙ is in cc) h
-text_is {S = S} P N (Err e) found s h given is = let both : ⊥ = (let same : ◌≡◌ {A = Option S} None (Some s) = sym given ∙ is in cc) in absurd both
+text_is {S = S} P N (Err e) found s h given is =
+    let both : ⊥ = (let same : ◌≡◌ {A = Option S} None (Some s) = sym given ∙ is in cc) in absurd both
 
 -- what the value of digits is, as it is parsed
-pub parsed : {E : Type 0} (result : Result ℕ E) (found : Option ℕ) (text digits : List ℕ) → is_number digits ≡ true → text ≡ digits → ParsesUnsigned 64 10 text result → found ≡ result_ok result
+pub parsed : {E : Type 0} (result : Result ℕ E) (found : Option ℕ) (text digits : List ℕ) → is_number digits ≡ true → text ≡ digits
+    → ParsesUnsigned 64 10 text result → found ≡ result_ok result
     → SomeIff found (digits_value 10 digits < 2 ^ 64) (digits_value 10 digits)
-parsed result found text digits is same parses ok = subst (λ o. SomeIff o (digits_value 10 digits < 2 ^ 64) (digits_value 10 digits)) (sym ok)
-    (by_result result (parse_digits own 64 digits result (subst (λ t. ParsesUnsigned 64 10 t result) same parses) (digits_of_number digits is)))
+parsed result found text digits is same parses ok =
+    subst (λ o. SomeIff o (digits_value 10 digits < 2 ^ 64) (digits_value 10 digits)) (sym ok)
+    (by_result result (parse_digits own 64 digits result
+    (subst (λ t. ParsesUnsigned 64 10 t result) same parses) (digits_of_number digits is)))
   where
-    by_result : {E : Type 0} (result : Result ℕ E) → OkIff result ((0 < length digits) × (digits_value 10 digits < 2 ^ 64)) (digits_value 10 digits) → SomeIff (result_ok result) (digits_value 10 digits < 2 ^ 64) (digits_value 10 digits)
+    by_result : {E : Type 0} (result : Result ℕ E)
+        → OkIff result ((0 < length digits) × (digits_value 10 digits < 2 ^ 64)) (digits_value 10 digits)
+        → SomeIff (result_ok result) (digits_value 10 digits < 2 ^ 64) (digits_value 10 digits)
     by_result (Ok x) h = (h.0.1, h.1)
     by_result (Err e) h = λ small. h (some_of_number digits is, small)
 

@@ -42,4 +42,5 @@ module _ (values : List Bool) where
   pub one : (l : ℤ) → is_literal_of (length values) l ≡ true → is_true_under values (neg_ℤ l) ≡ not (is_true_under values l)
   one (pos zero) is = cc
   one (pos (suc n)) is = ap not (get_or_default values n true false (omega (arith, (within (length values) (suc n) is).1)))
-  one (negsuc n) is = get_or_default values n false true (omega (arith, within_negative (length values) n is)) ∙ sym (not_twice (get_or values n true))
+  one (negsuc n) is =
+      get_or_default values n false true (omega (arith, within_negative (length values) n is)) ∙ sym (not_twice (get_or values n true))

@@ -4,7 +4,7 @@ use Rattle.std.specs.Prelude.{codes}
 use Rattle.std.specs.List.{enumerate_from}
 use Rattle.std.proofs.lemmas.List.{get_or_default, take_more, take_all, append-nil}
 use Rattle.std.proofs.lemmas.List.Concat.{flat_map-append}
-use Rattle.proof_sinks.specs.Text.{literal_text}
+use Rattle.clause_base.specs.ClauseText.{literal_text}
 use Rattle.solve_report.specs.Report.{literal_of, true_literals, values_line}
 
 abbrev literals_from : ℕ → List Bool → List ℤ

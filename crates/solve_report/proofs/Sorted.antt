@@ -1,10 +1,9 @@
 -- Sorted clauses, and the one sorted form of a formula.
-use Rattle.std.proofs.Common.{◌≡◌, ℕ, zero, suc, ◌+◌, ◌^◌, ◌<◌, ◌≤◌, ◌⊎◌, inl, inr, ℤ, ◌<ℤ◌, Bool, List, [], ◌∷◌, ◌++◌, length, take, get_or, refl, sym, ◌∙◌, ap, subst, arith}
+use Rattle.std.proofs.Common.{◌≡◌, ℕ, ◌+◌, ◌^◌, ◌<◌, ◌≤◌, ℤ, Bool, List, [], ◌∷◌, ◌++◌, length, take, get_or, refl, sym, ◌∙◌, ap, subst}
 use Rattle.std.specs.Prelude.{nat_abs}
-use Rattle.std.specs.List.{All, AllZip, Contains}
-use Rattle.std.proofs.lemmas.Int.{ints}
+use Rattle.std.specs.List.{AllZip, Contains}
 use Rattle.std.proofs.lemmas.List.{take_all, take_more}
-use Rattle.std.proofs.lemmas.List.Elements.{All-contains, AllZip-get_or, AllZip-push, Contains-get_or, length_all_zip}
+use Rattle.std.proofs.lemmas.List.Elements.{All-contains, AllZip-get_or, AllZip-push, length_all_zip}
 use Rattle.clause_base.specs.Literals.{IsRising}
 use Rattle.clause_base.specs.Formulas.{Clauses, IsFormula}
 use Rattle.clause_base.specs.Novelty.{HaveSame}

@@ -2,7 +2,7 @@
 use Rattle.std.proofs.Common.{◌≡◌, pos, [], ◌∷◌, true, false, refl, arith}
 use Rattle.std.specs.Prelude.{codes, neg_ℤ}
 use Rattle.std.specs.List.{concat}
-use Rattle.proof_sinks.specs.Text.{clause_text}
+use Rattle.clause_base.specs.ClauseText.{clause_text}
 use Rattle.conflict_solver.specs.declared.verdict.Verdict.TheVariants.{Refuted, Undecided}
 use Rattle.solve_report.specs.declared.ending.Ending.TheVariants.{Decided, Undecided as Unfinished}
 use Rattle.solve_report.specs.Report.{IsSortedForm, true_literals, values_line, verdict_line, ending_of}

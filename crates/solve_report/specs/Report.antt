@@ -6,8 +6,9 @@ use Rattle.probe_io.specs.Written.{Appends, AppendsFront}
 use Rattle.clause_base.specs.Literals.{IsRising}
 use Rattle.clause_base.specs.Formulas.{Clauses}
 use Rattle.clause_base.specs.Novelty.{HaveSame}
+use Rattle.clause_base.specs.ClauseText.{clause_text}
 use Rattle.proof_sinks.specs.declared.lines.Said.{Said}
-use Rattle.proof_sinks.specs.Text.{clause_text, text_of}
+use Rattle.proof_sinks.specs.Text.{text_of}
 use Rattle.conflict_solver.specs.declared.verdict.Verdict.{Verdict}
 use Rattle.conflict_solver.specs.declared.verdict.Verdict.TheVariants.{Values, Refuted, Undecided}
 use Rattle.conflict_solver.specs.Deriving.{IsProofSoFar}

@@ -1,7 +1,7 @@
 //! The last line of a report.
 
 ghost use Rattle.std.specs.Prelude.{◌≡◌, ◌++◌, ◌<◌, ◌^◌, IfOk, OnOk};
-ghost use Rattle.proof_sinks.specs.Text.{literal_text};
+ghost use Rattle.clause_base.specs.ClauseText.{literal_text};
 ghost use Rattle.solve_report.specs.Report.{literal_of, values_line, verdict_line};
 
 use conflict_solver::Verdict;
@@ -31,7 +31,7 @@ fn values_text(alloc: Global, values: &[bool]) -> Result<String, AllocError>
 }
 
 /// Adds the true literal of a variable, and a space.
-#[tactic(auto, unfolding(proof_sinks::specs::Text::literal_text))]
+#[tactic(auto, unfolding(clause_base::specs::ClauseText::literal_text))]
 fn push_literal(text: &mut String, variable: usize, value: bool) -> Result<(), AllocError>
     requires { variable < 2 ^ 63 }
     ensures { OnOk result (text.new.bytes.items ≡ text.old.bytes.items ++ literal_text (literal_of variable value)) }

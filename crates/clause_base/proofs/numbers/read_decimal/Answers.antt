@@ -18,4 +18,5 @@ returns-then-number-most-clause-none c = λ n few spelled.
     omega (arith, value, few, c.if-number-most.true, c.in_ok-number.ensures.1)
 
 pub returns-clause-spelled : goal.returns-clause-spelled
-returns-clause-spelled c = sym (decimal_of c.args.bytes.now (sym c.if-not-is_number.ensures) c.in_ok-number.ensures.0) ∙ ap decimal (sym c.in_ok-number.ensures.1)
+returns-clause-spelled c =
+    sym (decimal_of c.args.bytes.now (sym c.if-not-is_number.ensures) c.in_ok-number.ensures.0) ∙ ap decimal (sym c.in_ok-number.ensures.1)

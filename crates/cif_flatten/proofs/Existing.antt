@@ -1,5 +1,5 @@
 -- A file in which no symbol calls itself unfolds to some list.
-use Rattle.std.proofs.Common.{◌≡◌, ℕ, zero, suc, ◌+◌, ◌<◌, ◌≤◌, length, Bool, true, false, List, [], ◌∷◌, ◌++◌, refl, sym, ap, ◌∙◌, subst, arith, eqb-true, eq-eqb}
+use Rattle.std.proofs.Common.{◌≡◌, ℕ, zero, suc, ◌+◌, ◌<◌, length, Bool, true, false, List, [], ◌∷◌, ◌++◌, refl, sym, ap, ◌∙◌, subst, arith, eqb-true, eq-eqb}
 use Rattle.std.specs.Prelude.{nat_eq, Option, Some, None, is_some, find}
 use Rattle.std.specs.List.{IsDistinct, AllByRecursion}
 use Rattle.std.proofs.lemmas.Bool.{false≢true, or_left, or_right, or_parts}
@@ -44,8 +44,11 @@ all_unfold symbols (item ∷ items) each steps depth =
     let c : Placed = record { item = item; steps = steps; depth = depth } in
     record {
       placed = c ∷ (first.placed ++ more.placed);
-      unfolds = (refl, unfolds_append symbols (opened_by symbols steps depth item.what)
-          (in_place steps depth items) first.placed more.placed first.unfolds more.unfolds);
+      unfolds = (
+        refl,
+        unfolds_append symbols (opened_by symbols steps depth item.what)
+            (in_place steps depth items) first.placed more.placed first.unfolds more.unfolds,
+      );
     }
 
 -- ---- the way from the top
@@ -94,7 +97,7 @@ unfold_from (suc fuel) symbols path items nested way few =
     by_cases (is_defined symbols n)
     (λ is_one. by_cases (has path n) (λ again. absurd (nested.none n (way.leads n n again called)))
     (λ new. unfold_from fuel symbols (n ∷ path) (items_of symbols n) nested (further symbols path items n way called is_one new)
-        (omega (arith, few))))
+    (omega (arith, few))))
     (λ none. undefined_unfolds symbols n none))
 
 -- A file in which no symbol calls itself unfolds to some list.

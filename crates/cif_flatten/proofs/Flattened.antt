@@ -1,5 +1,5 @@
 -- A file without fault is flattened to some lists, and these lie within the range.
-use Rattle.std.proofs.Common.{◌≡◌, ◌⊎◌, inl, inr, ℕ, zero, suc, ◌+◌, ◌^◌, ◌<◌, ◌≤◌, map, length, List, [], ◌∷◌, ◌++◌, refl, sym, ap, ◌∙◌, subst, arith}
+use Rattle.std.proofs.Common.{◌≡◌, ◌⊎◌, inl, inr, ℕ, zero, suc, ◌+◌, ◌^◌, ◌<◌, map, List, [], ◌∷◌, ◌++◌, refl, sym, ap, ◌∙◌, subst, arith}
 use Rattle.std.specs.Prelude.{ℤ, pos, neg_ℤ, slice_index_or}
 use Rattle.std.specs.List.{All, AllByRecursion, Contains}
 use Rattle.std.specs.Vec.{with_items}
@@ -11,7 +11,7 @@ use Rattle.plane_geom.specs.declared.shapes.Rect.{Rect}
 use Rattle.plane_geom.specs.declared.shapes.Shape.{Shape}
 use Rattle.plane_geom.specs.declared.shapes.Shape.TheVariants.{Block, Polygon, Wire}
 use Rattle.plane_geom.specs.Bounds.{IsWithin, IsPointWithin, IsRectWithin}
-use Rattle.plane_geom.specs.Covering.{Figure, block, polygon, wire, figure_of, moved_figure, rect_round, IsWellFormed, IsReach}
+use Rattle.plane_geom.specs.Covering.{polygon, wire, figure_of, moved_figure, rect_round, IsWellFormed, IsReach}
 use Rattle.plane_geom.specs.Placement.{Step, moved}
 use Rattle.cif_reader.specs.declared.file.What.{What}
 use Rattle.cif_reader.specs.declared.file.What.TheVariants.{Draw, Call, Mark}
@@ -19,8 +19,8 @@ use Rattle.cif_reader.specs.File.{Contents, IsKeptWhat, IsFile}
 use Rattle.cif_flatten.specs.declared.flat.Draw.{Draw as Draw'}
 use Rattle.cif_flatten.specs.declared.flat.Mark.{Mark as Mark'}
 use Rattle.cif_flatten.specs.declared.refusal.FlattenRefusal.TheVariants.{Recursive, OutOfRange}
-use Rattle.cif_flatten.specs.Flat.{Lists, IsShapeWithin, IsFlatWithin}
-use Rattle.cif_flatten.specs.Unfolding.{Placed, Drawn, Marked, drawn_by, marked_by, drawn, marked, in_place, HasUnfolding, IsUnfolding}
+use Rattle.cif_flatten.specs.Flat.{Lists, IsFlatWithin}
+use Rattle.cif_flatten.specs.Unfolding.{Placed, Drawn, Marked, drawn_by, marked_by, drawn, marked, in_place, IsUnfolding}
 use Rattle.cif_flatten.specs.Faults.{CallsThrough, IsRecursive, IsNested, corners, PlacedPoints, reaching, IsInRange, IsOutOfRange}
 use Rattle.cif_flatten.specs.Flattening.{IsSound, drawn_of, marked_of, IsFlattened, HasFlattening}
 use Rattle.cif_flatten.proofs.Cases.{not_less}
@@ -35,8 +35,11 @@ use Rattle.cif_flatten.proofs.Walked.{PlacedKept, in_place_kept, unfolds_kept}
 none_below : (file : Contents) → ((n : ℕ) → IsRecursive file n → ⊥) → (bound n : ℕ) → n < bound → CallsThrough file.symbols n n → ⊥
 none_below file none zero n small h = absurd (omega (arith, small))
 none_below file none (suc bound) n small h = none n
-    (record { itself = h; least = λ other through. not_less other n
-        (λ less. none_below file none bound other (omega (arith, small, less)) through) })
+    (record {
+      itself = h;
+      least = λ other through. not_less other n
+          (λ less. none_below file none bound other (omega (arith, small, less)) through);
+    })
 
 sound_nested : (file : Contents) → IsSound file → IsNested file.symbols
 sound_nested file sound = record { none = λ n h. none_below file (λ m r. sound.none (Recursive m) r) (n + 1) n (omega arith) h }
@@ -114,7 +117,7 @@ some_flattening file sound =
 within_or_not : (z : ℤ) → IsWithin (2 ^ 24) z ⊎ (IsWithin (2 ^ 24) z → ⊥)
 within_or_not z = by_lt_z z (neg_ℤ (pos (2 ^ 24))) (λ less. inr (λ h. omega (arith, ints, less, h.low)))
     (λ low. by_lt_z (pos (2 ^ 24)) z (λ less. inr (λ h. omega (arith, ints, less, h.high)))
-        (λ high. inl (record { low = low; high = high })))
+    (λ high. inl (record { low = low; high = high })))
 
 by_doubt : {P : Type 0} → P ⊎ (P → ⊥) → ((P → ⊥) → ⊥) → P
 by_doubt (inl p) h = p
@@ -144,15 +147,15 @@ none_out file placed u none (suc bound) r small one out =
       least = λ k d lt other.
           let s : PlacedPoints = slice_index_or (reaching placed) k d in
           not_less s.pos r.pos
-              (λ less. none_out file placed u none bound s (omega (arith, small, less))
-                  (All-contains_itself (reaching placed) k d lt) other);
+          (λ less. none_out file placed u none bound s (omega (arith, small, less))
+          (All-contains_itself (reaching placed) k d lt) other);
     })
 
 all_in_range : (file : Contents) (placed : List Placed) → IsUnfolding file placed → IsSound file → All IsInRange (reaching placed)
 all_in_range file placed u sound = λ k d lt.
     let r : PlacedPoints = slice_index_or (reaching placed) k d in
     range_surely r (λ out. none_out file placed u (λ place o. sound.none (OutOfRange place) o) (r.pos + 1) r (omega arith)
-        (All-contains_itself (reaching placed) k d lt) out)
+    (All-contains_itself (reaching placed) k d lt) out)
 
 -- ---- shapes and labels
 
@@ -198,13 +201,13 @@ flattened_within file lists kept flat =
     let placed = flat.placed in
     let ins = all_in_range file placed flat.unfolded flat.sound in
     let shapes = unmapped IsInRange points_of_drawn (drawn placed)
-        (all_left IsInRange (map points_of_drawn (drawn placed)) (map points_of_marked (marked placed)) ins) in
+    (all_left IsInRange (map points_of_drawn (drawn placed)) (map points_of_marked (marked placed)) ins) in
     let labels = unmapped IsInRange points_of_marked (marked placed)
-        (all_right IsInRange (map points_of_drawn (drawn placed)) (map points_of_marked (marked placed)) ins) in
+    (all_right IsInRange (map points_of_drawn (drawn placed)) (map points_of_marked (marked placed)) ins) in
     let formed = all_formed placed
-        (unfolds_kept file.symbols (in_place [] 0 file.top) placed kept.symbols (in_place_kept [] 0 file.top kept.top) flat.unfolded) in
+    (unfolds_kept file.symbols (in_place [] 0 file.top) placed kept.symbols (in_place_kept [] 0 file.top kept.top) flat.unfolded) in
     let all_drawn : All IsDrawnWithin (drawn placed) = λ k d lt. within_range (slice_index_or (drawn placed) k d) (formed k d lt)
-        (shapes k d lt) in
+    (shapes k d lt) in
     let all_marked : All (λ (m : Marked). IsPointWithin (2 ^ 24) m.at) (marked placed) =
     λ k d lt. All-head (IsPointWithin (2 ^ 24)) (slice_index_or (marked placed) k d).at [] (labels k d lt) in
     let draws = unmapped IsDrawnWithin drawn_of lists.draws (subst (All IsDrawnWithin) (sym flat.draws) all_drawn) in

@@ -19,13 +19,13 @@ pub found : (given total : ℕ) (bytes behind rest : List ℕ) (c : Command) →
     → body_at total bytes ≡ Some (c, behind) → end_at c behind ≡ Some rest → Takes (command c ⋅ end c) (given - length bytes) bytes rest
 found given total bytes behind rest c is e f =
     subst (λ at. Takes (command c ⋅ end c) at bytes rest) (sym (same_place given total (length bytes) is))
-        (command_takes total (total - length bytes) bytes c rest (omega (arith, is)) (body_then_end total bytes behind rest c e f))
+    (command_takes total (total - length bytes) bytes c rest (omega (arith, is)) (body_then_end total bytes behind rest c e f))
 
 none_spelled : (given total : ℕ) (bytes : List ℕ) → total ≡ max given (length bytes) → command_at total bytes ≡ None
     → (c : Command) (rest : List ℕ) → Takes (command c ⋅ end c) (given - length bytes) bytes rest → ⊥
 none_spelled given total bytes is e c rest t =
     let read = ap (command_at total) t.whole ∙ command_again total (given - length bytes) c t.front rest
-        (omega (arith, is, ap length t.whole)) t.spelled in
+    (omega (arith, is, ap length t.whole)) t.spelled in
     cc
 
 pub no_body : (given total : ℕ) (bytes : List ℕ) → total ≡ max given (length bytes) → body_at total bytes ≡ None
@@ -62,7 +62,7 @@ pub one_command : (at : ℕ) (bytes : List ℕ) (c d : Command) (rest behind : L
     → Takes (command d ⋅ end d) at bytes behind → (c ≡ d) × (skip is_gap rest ≡ skip is_gap behind)
 one_command at bytes c d rest behind t s =
     let same = same_Some _ _
-        (sym (read_some (at + length bytes) at bytes rest c refl t) ∙ read_some (at + length bytes) at bytes behind d refl s) in
+    (sym (read_some (at + length bytes) at bytes rest c refl t) ∙ read_some (at + length bytes) at bytes behind d refl s) in
     (ap (λ (x : Command × List ℕ). x.0) same, ap (λ (x : Command × List ℕ). x.1) same)
 
 -- ---- the gaps

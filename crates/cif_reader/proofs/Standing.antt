@@ -1,6 +1,6 @@
 -- The next command that may stand, as the grammar tells it.
-use Rattle.std.proofs.Common.{◌≡◌, ℕ, ◌-◌, ◌≤◌, Bool, true, false, if◌then◌else◌, List, length, refl, sym, ap, ◌∙◌, arith}
-use Rattle.std.specs.Prelude.{Option, Some, None}
+use Rattle.std.proofs.Common.{◌≡◌, ℕ, ◌-◌, ◌≤◌, Bool, true, false, if◌then◌else◌, List, length, sym, ap, ◌∙◌, arith}
+use Rattle.std.specs.Prelude.{Some, None}
 use Rattle.std.specs.Option.{option_and_then}
 use Rattle.cif_grammar.specs.Words.{◌⋅◌, Takes, skip}
 use Rattle.cif_grammar.specs.Grammar.{Command, command, end, is_gap}
@@ -29,13 +29,13 @@ pub stands : (inside : Bool) (total : ℕ) (bytes rest : List ℕ) (c : Command)
     → skip is_gap rest ≡ rest → may_stand_in inside c ≡ true → length bytes ≤ total → Some (c, rest) ≡ standing_at inside total bytes
 unfolding standing_at
 stands inside total bytes rest c spelled gaps may within =
-    sym (ap (option_and_then (if_standing inside)) (read_is total bytes rest c within spelled gaps) 
-        ∙ if_chosen (may_stand_in inside c) true (c, rest) may)
+    sym (ap (option_and_then (if_standing inside)) (read_is total bytes rest c within spelled gaps)
+    ∙ if_chosen (may_stand_in inside c) true (c, rest) may)
 
 -- A command that may not stand does not.
 pub barred : (inside : Bool) (total : ℕ) (bytes rest : List ℕ) (c : Command) → Takes (command c ⋅ end c) (total - length bytes) bytes rest
     → skip is_gap rest ≡ rest → may_stand_in inside c ≡ false → length bytes ≤ total → None ≡ standing_at inside total bytes
 unfolding standing_at
 barred inside total bytes rest c spelled gaps may within =
-    sym (ap (option_and_then (if_standing inside)) (read_is total bytes rest c within spelled gaps) 
-        ∙ if_chosen (may_stand_in inside c) false (c, rest) may)
+    sym (ap (option_and_then (if_standing inside)) (read_is total bytes rest c within spelled gaps)
+    ∙ if_chosen (may_stand_in inside c) false (c, rest) may)

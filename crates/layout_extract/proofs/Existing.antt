@@ -7,7 +7,7 @@ use Rattle.cif_flatten.specs.Flat.{Lists}
 use Rattle.cif_flatten.specs.Flattening.{IsFlattened}
 use Rattle.cif_flatten.proofs.Flattened.{flattened_within}
 use Rattle.layer_map.specs.Truth.{Formula, is_unbounded}
-use Rattle.layer_map.specs.Plan.{Plan, Wire, Cut, Fet, IsKeptCut, IsKeptFet, IsKeptMap}
+use Rattle.layer_map.specs.Plan.{Plan, Cut, Fet, IsKeptCut, IsKeptFet, IsKeptMap}
 use Rattle.mask_algebra.specs.Masks.{wire_formulas, cut_formulas, channel_formulas}
 use Rattle.mask_algebra.proofs.Existing.{some_masks}
 use Rattle.layout_extract.specs.Layouts.{HasLayoutMasks}

@@ -1,5 +1,5 @@
 -- The cells that a shape covers lie within each rectangle round it.
-use Rattle.std.proofs.Common.{◌≡◌, ℕ, ◌+◌, ◌^◌, ◌<◌, Bool, true, false, cond, not, ◌&&◌, List, [], ◌∷◌, ◌++◌, length, refl, sym, ap, ◌∙◌, inl, inr, arith}
+use Rattle.std.proofs.Common.{◌≡◌, ◌+◌, ◌<◌, Bool, true, false, cond, not, ◌&&◌, List, [], ◌∷◌, ◌++◌, refl, sym, ap, ◌∙◌, inl, inr, arith}
 use Rattle.std.specs.Prelude.{ℤ, pos, ◌≤ℤ◌, ◌<ℤ◌, int_lt, count_by}
 use Rattle.std.specs.List.{All, AllByRecursion, list_any}
 use Rattle.std.proofs.lemmas.Bool.{false≢true}
@@ -81,7 +81,7 @@ none_crossed : (x y : ℤ) (p : Point) (ps : List Point) → int_lt x p.x ≡ tr
 none_crossed x y p [] here rest = refl
 none_crossed x y p (q ∷ qs) here rest =
     let one : is_crossed x y (p, q) ≡ false = ap (λ b. is_vertical (p, q) && spans y (p, q) && not b) here
-        ∙ none_of (is_vertical (p, q)) (spans y (p, q)) in
+    ∙ none_of (is_vertical (p, q)) (spans y (p, q)) in
     count_cons (is_crossed x y) (p, q) (edges_from q qs) ∙ (λ i. cond (one i) 1 0 + none_crossed x y q qs rest.0 rest.1 i)
 
 -- Right of all corners each upright edge is crossed.
@@ -90,7 +90,7 @@ all_crossed : (x y : ℤ) (p : Point) (ps : List Point) → int_lt x p.x ≡ fal
 all_crossed x y p [] here rest = refl
 all_crossed x y p (q ∷ qs) here rest =
     let one : is_crossed x y (p, q) ≡ is_upright y (p, q) = ap (λ b. is_vertical (p, q) && spans y (p, q) && not b) here
-        ∙ both_of (is_vertical (p, q)) (spans y (p, q)) in
+    ∙ both_of (is_vertical (p, q)) (spans y (p, q)) in
     count_cons (is_crossed x y) (p, q) (edges_from q qs) ∙ (λ i. cond (one i) 1 0 + all_crossed x y q qs rest.0 rest.1 i)
     ∙ sym (count_cons (is_upright y) (p, q) (edges_from q qs))
 
@@ -112,16 +112,16 @@ polygon_in : (r : Rect) (points : List Point) (x y : ℤ) → IsOutline points �
 polygon_in r points x y formed all e = record {
   left = by_lt_z x r.x0
       (λ less. let out = all_points r (λ q. int_lt x q.x ≡ true) points (λ q h. grind (arith, ints, less, h.left)) all in
-          clash (polygon_covers points x y) (none_left points x y out) e) (λ k. k);
+      clash (polygon_covers points x y) (none_left points x y out) e) (λ k. k);
   right = by_lt_z x r.x1 (λ k. k)
       (λ more. let out = all_points r (λ q. int_lt x q.x ≡ false) points (λ q h. grind (arith, ints, more, h.right)) all in
-          clash (polygon_covers points x y) (none_right points x y formed out) e);
+      clash (polygon_covers points x y) (none_right points x y formed out) e);
   below = by_lt_z y r.y0
       (λ less. let out = all_points r (λ q. int_lt y q.y ≡ true) points (λ q h. grind (arith, ints, less, h.below)) all in
-          clash (polygon_covers points x y) (covers_none points x y true out) e) (λ k. k);
+      clash (polygon_covers points x y) (covers_none points x y true out) e) (λ k. k);
   above = by_lt_z y r.y1 (λ k. k)
       (λ more. let out = all_points r (λ q. int_lt y q.y ≡ false) points (λ q h. grind (arith, ints, more, h.above)) all in
-          clash (polygon_covers points x y) (covers_none points x y false out) e);
+      clash (polygon_covers points x y) (covers_none points x y false out) e);
 }
 
 -- A covered cell lies within each rectangle round the shape.

@@ -1,7 +1,7 @@
 -- Expressions have masks on a layout within the range.
-use Rattle.std.proofs.Common.{◌≡◌, ℕ, zero, suc, ◌+◌, ◌^◌, ◌<◌, Bool, true, false, cond, ◌&&◌, ◌||◌, List, [], ◌∷◌, ◌++◌, length, refl, sym, ap, ◌∙◌, subst, inl, inr, arith}
+use Rattle.std.proofs.Common.{◌≡◌, ℕ, zero, suc, ◌+◌, ◌^◌, ◌<◌, Bool, true, false, cond, ◌&&◌, ◌||◌, List, [], ◌∷◌, ◌++◌, refl, sym, ap, ◌∙◌, subst, inl, inr, arith}
 use Rattle.std.specs.Prelude.{ℤ, pos, neg_ℤ, ◌+ℤ◌, ◌≤ℤ◌, ◌<ℤ◌}
-use Rattle.std.specs.List.{All, AllByRecursion, AllZip, list_any}
+use Rattle.std.specs.List.{All, AllByRecursion}
 use Rattle.std.specs.Str.{bytes_eq}
 use Rattle.std.proofs.lemmas.Bool.{false≢true, or_left, or_right, and_parts}
 use Rattle.std.proofs.lemmas.Int.{ints, by_lt_z}
@@ -15,7 +15,7 @@ use Rattle.layer_map.specs.Truth.{Formula, holds, is_unbounded}
 use Rattle.mask_region.specs.declared.strips.Strip.{Strip}
 use Rattle.mask_region.specs.Strips.{is_in_strip, is_in, IsCellWithin}
 use Rattle.mask_region.proofs.Within.{or_cases}
-use Rattle.mask_algebra.specs.Masks.{layer_covers, is_true_at, IsMask, AreMasks, HaveMasks}
+use Rattle.mask_algebra.specs.Masks.{layer_covers, is_true_at, IsMask, HaveMasks}
 use Rattle.mask_algebra.specs.Layers.{square}
 use Rattle.mask_algebra.proofs.Covered.{covered_in}
 use Rattle.mask_algebra.proofs.Reaches.{has_reach}
@@ -39,10 +39,10 @@ layer_cell : (draws : List Draw) (name : List ℕ) (x y : ℤ) → All (λ (d : 
 layer_cell [] name x y within e = absurd (false≢true e)
 layer_cell (d ∷ draws) name x y within e = elim
     (or_cases (bytes_eq d.layer name && covers (figure_of d.shape) x y) (layer_covers draws name x y) e) [
-  | inl here ↦ shape_cell d x y (All-head (λ (d : Draw). IsShapeWithin (2 ^ 24) d.shape) d draws within)
-      (and_parts (bytes_eq d.layer name) (covers (figure_of d.shape) x y) here).1
-  | inr there ↦ layer_cell draws name x y (All-tail (λ (d : Draw). IsShapeWithin (2 ^ 24) d.shape) d draws within) there
-]
+      | inl here ↦ shape_cell d x y (All-head (λ (d : Draw). IsShapeWithin (2 ^ 24) d.shape) d draws within)
+          (and_parts (bytes_eq d.layer name) (covers (figure_of d.shape) x y) here).1
+      | inr there ↦ layer_cell draws name x y (All-tail (λ (d : Draw). IsShapeWithin (2 ^ 24) d.shape) d draws within) there
+    ]
 
 in_square : (x y : ℤ) → IsCellWithin (2 ^ 24) x y → is_in_rect square x y ≡ true
 in_square x y h = grind (arith, ints, h.left, h.right, h.below, h.above)
@@ -112,10 +112,10 @@ unfolding rows
 rows_sound test x wide zero y i j h = absurd (false≢true h)
 rows_sound test x wide (suc n) y i j h = elim
     (or_cases (is_in (row test y wide x) i j) (is_in (rows test x wide n (y +ℤ pos 1)) i j)
-        (sym (any_either (row test y wide x) (rows test x wide n (y +ℤ pos 1)) i j) ∙ h)) [
-  | inl here ↦ row_sound test y wide x i j here
-  | inr there ↦ rows_sound test x wide n (y +ℤ pos 1) i j there
-]
+    (sym (any_either (row test y wide x) (rows test x wide n (y +ℤ pos 1)) i j) ∙ h)) [
+      | inl here ↦ row_sound test y wide x i j here
+      | inr there ↦ rows_sound test x wide n (y +ℤ pos 1) i j there
+    ]
 
 first_case : (x y : ℤ) (b : Bool) (more : List Strip) → b ≡ true → is_in (cond b (cell x y ∷ more) more) x y ≡ true
 first_case x y true more h = or_left (is_in_strip (cell x y) x y) (is_in more x y) (in_cell x y)
@@ -131,10 +131,10 @@ unfolding row
 row_whole test y zero x i t low high = absurd (omega (arith, ints, low, high))
 row_whole test y (suc n) x i t low high = by_lt_z x i
     (λ later. more_case x y i y (test x y) (row test y n (x +ℤ pos 1))
-        (row_whole test y n (x +ℤ pos 1) i t (omega (arith, ints, later)) (omega (arith, ints, high))))
+    (row_whole test y n (x +ℤ pos 1) i t (omega (arith, ints, later)) (omega (arith, ints, high))))
     (λ le. let same : i ≡ x = omega (arith, ints, le, low) in
     subst (λ k. is_in (cond (test x y) (cell x y ∷ row test y n (x +ℤ pos 1)) (row test y n (x +ℤ pos 1))) k y ≡ true) (sym same)
-        (first_case x y (test x y) (row test y n (x +ℤ pos 1)) (subst (λ k. test k y ≡ true) same t)))
+    (first_case x y (test x y) (row test y n (x +ℤ pos 1)) (subst (λ k. test k y ≡ true) same t)))
 
 rows_whole : (test : ℤ → ℤ → Bool) (x : ℤ) (wide n : ℕ) (y i j : ℤ) → test i j ≡ true → x ≤ℤ i → i <ℤ (x +ℤ pos wide) → y ≤ℤ j
     → j <ℤ (y +ℤ pos n) → is_in (rows test x wide n y) i j ≡ true
@@ -144,11 +144,11 @@ rows_whole test x wide (suc n) y i j t left right low high =
     any_either (row test y wide x) (rows test x wide n (y +ℤ pos 1)) i j
     ∙ by_lt_z y j
     (λ later. or_right (is_in (row test y wide x) i j) (is_in (rows test x wide n (y +ℤ pos 1)) i j)
-        (rows_whole test x wide n (y +ℤ pos 1) i j t left right (omega (arith, ints, later)) (omega (arith, ints, high))))
+    (rows_whole test x wide n (y +ℤ pos 1) i j t left right (omega (arith, ints, later)) (omega (arith, ints, high))))
     (λ le. let same : j ≡ y = omega (arith, ints, le, low) in
     or_left (is_in (row test y wide x) i j) (is_in (rows test x wide n (y +ℤ pos 1)) i j)
     (subst (λ k. is_in (row test y wide x) i k ≡ true) (sym same)
-        (row_whole test y wide x i (subst (λ k. test i k ≡ true) same t) left right)))
+    (row_whole test y wide x i (subst (λ k. test i k ≡ true) same t) left right)))
 
 -- ---- masks
 
@@ -165,7 +165,7 @@ mask_whole : (draws : List Draw) (f : Formula) (x y : ℤ) → IsCellWithin (2 ^
 unfolding mask_by
 mask_whole draws f x y h e =
     rows_whole (is_true_at draws f) (neg_ℤ (pos (2 ^ 24))) (2 ^ 25) (2 ^ 25) (neg_ℤ (pos (2 ^ 24))) x y e h.left
-        (omega (arith, ints, h.right)) h.below (omega (arith, ints, h.above))
+    (omega (arith, ints, h.right)) h.below (omega (arith, ints, h.above))
 
 square_cell : (x y : ℤ) → is_in_rect square x y ≡ true → IsCellWithin (2 ^ 24) x y
 square_cell x y h =

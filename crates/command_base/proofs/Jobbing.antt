@@ -1,5 +1,6 @@
 -- How a job ends, from how its input was judged and what was written.
-use Rattle.std.proofs.Common.{◌≡◌, ◌⊎◌, inl, inr, Result, Ok, Err, refl, subst}
+use Rattle.std.proofs.Common.{◌≡◌, ◌⊎◌, inl, inr, Result, Ok, Err, refl, sym, subst}
+use Rattle.std.specs.Prelude.{IsErrAnd}
 use Rattle.command_base.specs.declared.endings.Ending.{Ending}
 use Rattle.command_base.specs.declared.endings.Stop.{Stop}
 use Rattle.command_base.specs.declared.endings.Stop.TheVariants.{Refused, OpenFault, ReadFault, WriteFault, NoMemory}
@@ -7,7 +8,7 @@ use Rattle.probe_io.specs.Devices.{Files, ShelfState, SinkState, IsUntouched}
 use Rattle.command_base.specs.Desks.{Desk}
 use Rattle.command_base.specs.Stages.{Stage, IsGiven, IsJudged, JudgesAs}
 use Rattle.command_base.proofs.Judging.{quiet_shelf_still}
-use Rattle.command_base.specs.Jobs.{Texts, job, refusing, IsSuchEnd, Ends, IsHalted, AreWritten, Writes}
+use Rattle.command_base.specs.Jobs.{Texts, Job, job, refusing, IsSuchEnd, Ends, IsHalted, AreWritten, Writes}
 
 abbrev desk_of : ShelfState → SinkState → Desk
 desk_of shelf out = record { shelf = shelf; out = out }
@@ -56,3 +57,8 @@ job_writes {view = view} {stage = stage} {texts = texts} {a = a} {b = b} {out = 
 -- a job that refuses whatever files there are
 pub refusing_stops : {R : Type 0} {refusal : R} {shelf : ShelfState} {out : SinkState} → Ends (refusing refusal) (desk_of shelf out) (desk_of shelf out) (Err (Refused refusal))
 refusing_stops {shelf = shelf} {out = out} = record { how = record { cause = refl; shelf = quiet_shelf_still shelf; out = untouched out } }
+
+-- the same of a result that is known to be this error
+pub ends_as : {R : Type 0} {job : Job R} {before after : Desk} {r : Result Ending (Stop R)} {e : Stop R} → IsErrAnd r (λ f. f ≡ e) → Ends job before after (Err e) → Ends job before after r
+ends_as {r = Ok x} is ends = absurd is
+ends_as {job = job} {before = before} {after = after} {r = Err f} is ends = subst (λ g. Ends job before after (Err g)) (sym is) ends

@@ -1,5 +1,6 @@
 -- Calls that judge by stages, one after the other.
 use Rattle.std.proofs.Common.{◌≡◌, ◌⊎◌, inl, inr, ℕ, ◌≤◌, Bool, true, List, Option, Some, None, Result, Ok, Err, refl, sym, ◌∙◌, subst, arith}
+use Rattle.std.specs.Prelude.{IsErrAnd}
 use Rattle.probe_io.specs.Causes.{Rose}
 use Rattle.probe_io.specs.Files.{Lacks}
 use Rattle.command_base.specs.declared.endings.Which.{Which}
@@ -135,3 +136,9 @@ memory_stops {shelf = shelf} = record { judged = quiet_shelf_still shelf; strict
 -- a refusal for another number of words
 pub refused_stops : {R A B : Type 0} {view : B → A} {refusal : R} {shelf : ShelfState} → JudgesAs view (refused {A = A} refusal) shelf shelf (Err (Refused refusal))
 refused_stops {shelf = shelf} = record { judged = record { refuses = refl; shelf = quiet_shelf_still shelf }; strict = refl; files = refl }
+
+-- the same of a result that is known to be this error
+pub judged_as : {R A B : Type 0} {view : B → A} {stage : Stage R A} {a b : ShelfState} {r : Result B (Stop R)} {e : Stop R}
+    → IsErrAnd r (λ f. f ≡ e) → JudgesAs view stage a b (Err e) → JudgesAs view stage a b r
+judged_as {r = Ok x} is judges = absurd is
+judged_as {view = view} {stage = stage} {a = a} {b = b} {r = Err f} is judges = subst (λ g. JudgesAs view stage a b (Err g)) (sym is) judges

@@ -6,9 +6,9 @@ ghost use Rattle.probe_io.specs.Devices.{ShelfState};
 ghost use Rattle.command_base.specs.Stages.{Judges};
 ghost use Rattle.command_inputs.specs.Stages.{budget_stage};
 
+use clause_base::read_decimal;
 use command_base::Stop;
 use command_refusals::{Refusal, WordRefusal};
-use itoa::Buffer;
 use probe_io::Name;
 
 /// The greatest budget of a search.
@@ -30,12 +30,9 @@ pub(crate) fn read_number(text: &str, most: u32) -> Option<u32>
     ensures found { IfSome result (λ n. (1 ≤ n) × (n ≤ most) × (text.now ≡ decimal n)) }
     ensures none { IfNone result ((n : ℕ) → 1 ≤ n → n ≤ most → text.now ≡ decimal n → ⊥) }
 {
-    let number = text.parse::<u32>().ok()?;
-    if number == 0 || number > most {
+    let number = read_decimal(text.as_bytes(), most as u64)?;
+    if number == 0 {
         return None;
     }
-    if Buffer::new().format(number) != text {
-        return None;
-    }
-    Some(number)
+    Some(number as u32)
 }

@@ -37,5 +37,8 @@ fn put_side<K: Sink>(sink: &mut K, before: &[u8], side: &SideWeight) -> Result<(
         return put_pieces(sink, &[Piece::Text(before), size]);
     }
     let weight = Piece::Number(side.weight as u64);
-    put_pieces(sink, &[Piece::Text(before), size, Piece::Text(b":"), weight])
+    put_pieces(
+        sink,
+        &[Piece::Text(before), size, Piece::Text(b":"), weight],
+    )
 }

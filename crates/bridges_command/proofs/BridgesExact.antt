@@ -67,7 +67,7 @@ one_text map cif word files s t here there =
     let last' = layout'.holds in
     let mapped = one_mapped map cif files layout.value layout'.value layout.given layout'.given in
     let ranked = one_ranked layout.value.named.nets layout'.value.named.nets there.value last.value last'.value mapped.named.nets
-        (subst (λ list. IsRanking layout.value.named.nets list last.value) sides last.given) last'.given in
+    (subst (λ list. IsRanking layout.value.named.nets list last.value) sides last.given) last'.given in
     ap text_on last.holds ∙ same_texts _ _ sides mapped ranked ∙ sym (ap text_on last'.holds)
 
 pub one_report : (words : List (List ℕ)) (files : List File) (ending ending' : Ending) (text other : List ℕ) → AreOneReport words files ending ending' text other

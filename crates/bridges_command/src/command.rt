@@ -47,7 +47,11 @@ pub fn bridges<H: Shelf, K: Sink>(
 }
 
 /// What the words ask for.
-fn read_subject<H: Shelf>(alloc: Global, words: &[Name], shelf: &mut H) -> Result<Subject, Stop<Refusal>>
+fn read_subject<H: Shelf>(
+    alloc: Global,
+    words: &[Name],
+    shelf: &mut H,
+) -> Result<Subject, Stop<Refusal>>
     ensures { JudgesAs subject_of (bridges_stage words.now) (shelf_at H.Shelf shelf.old) (shelf_at H.Shelf shelf.new) result }
 {
     match words {
@@ -77,7 +81,11 @@ fn read_parts<H: Shelf>(
 }
 
 /// The bridges of the nets, in the order of their ranks.
-fn rank(alloc: Global, mapped: &MappedNets, sides: &[SideWeight]) -> Result<Vec<PairCount>, Stop<Refusal>>
+fn rank(
+    alloc: Global,
+    mapped: &MappedNets,
+    sides: &[SideWeight],
+) -> Result<Vec<PairCount>, Stop<Refusal>>
     requires { AreSides sides.now }
     ensures { (shelf : ShelfState) → JudgesAs (λ v. v.items) (ranked_stage (seen mapped.now) sides.now) shelf shelf result }
 {
@@ -101,7 +109,11 @@ fn ranked_bridges(
 }
 
 /// Writes the report on the subject. Its memory is taken before the first write.
-fn write_report<K: Sink>(alloc: Global, subject: &Subject, out: &mut K) -> Result<Ending, Stop<Refusal>>
+fn write_report<K: Sink>(
+    alloc: Global,
+    subject: &Subject,
+    out: &mut K,
+) -> Result<Ending, Stop<Refusal>>
     ensures { Writes bridges_texts (subject_of subject.now) (sink_at K.Sink out.old) (sink_at K.Sink out.new) result }
 {
     let Ok(mut room) = LineRoom::new(alloc, ROOM) else {

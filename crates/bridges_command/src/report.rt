@@ -51,7 +51,10 @@ impl Line for Tally {
     #[tactic(auto, unfolding(crate::specs::Report::tally))]
     fn put<K: Sink>(&self, sink: &mut K) -> Result<(), Failed> {
         let bridges = Piece::Number(self.bridges as u64);
-        put_pieces(sink, &[Piece::Text(b"tally bridges "), bridges, Piece::Text(b"\n")])
+        put_pieces(
+            sink,
+            &[Piece::Text(b"tally bridges "), bridges, Piece::Text(b"\n")],
+        )
     }
 }
 

@@ -9,7 +9,7 @@ use Rattle.command_base.specs.declared.endings.Stop.{Stop}
 use Rattle.command_base.specs.declared.endings.Stop.TheVariants.{Refused, OpenFault, ReadFault, WriteFault, NoMemory}
 use Rattle.command_base.specs.declared.endings.AnyStatus.{AnyStatus}
 use Rattle.command_base.specs.declared.endings.AnyStatus.TheVariants.{Done, DoneUndecided, DoneNo, Refused as IsRefusedFor, OpenFault as NotOpened, ReadFault as NotRead, WriteFault as NotWritten, NoMemory as OutOfMemory}
-use Rattle.probe_io.specs.Devices.{SinkState, IsQuiet, IsUntouched, IsPut, IsCut}
+use Rattle.probe_io.specs.Devices.{SinkState, IsQuiet, IsUntouched, IsUnwritten, IsPut, IsCut}
 use Rattle.command_base.specs.Desks.{Desk}
 use Rattle.command_base.specs.Jobs.{Job, IsReported, IsSuchEnd, IsHalted}
 use Rattle.command_base.specs.Answers.{done_of, IsToldRefusal, IsToldAs, IsAnswer, IsInterrupted, RefusesWhere, IsInOrder, IsFaultless, IsComplete, ReportsWhere, TellsFaults}
@@ -61,7 +61,7 @@ complete_so line job before after diag diag' status (Ok ending) files are order 
 complete_so line job before after diag diag' status (Err (Refused r)) files are order faultless ends tells = absurd (order.no_cause r (subst (λ fs. job.cause fs r) are ends.cause))
 complete_so line job before after diag diag' status (Err (OpenFault which)) files are order faultless ends tells =
     absurd (never_unstarted (λ lacks. order.there which ends.shelf.name (subst (λ fs. job.reads fs which ends.shelf.name) are ends.shelf.asked) (subst (λ fs. Lacks fs ends.shelf.name) are lacks))
-        faultless.starts ends.shelf.shelf.failed)
+    faultless.starts ends.shelf.shelf.failed)
 complete_so line job before after diag diag' status (Err (ReadFault which)) files are order faultless ends tells = absurd (faultless.reads ends.shelf.shelf.failed)
 complete_so line job before after diag diag' status (Err WriteFault) files are order faultless ends tells = absurd (faultless.out ends.out.failed)
 complete_so line job before after diag diag' status (Err NoMemory) files are order faultless ends tells = subst (λ s. IsComplete job (Some files) s) (sym tells.0) tt
@@ -77,8 +77,8 @@ reports_where {line = line} {job = job} {before = before} {after = after} {diag 
 untouched_quiet : {before after : SinkState} → IsUntouched before after → IsQuiet before.strict before.faults after.faults
 untouched_quiet untouched = record { later = omega (arith, untouched.faults); quiet = λ is. untouched.faults }
 
-still_or_halted : {before after : SinkState} {halted : List ℕ → Type 0} → IsUntouched before after ⊎ IsHalted halted before after → IsQuiet before.strict before.faults after.faults
-still_or_halted (inl untouched) = untouched_quiet untouched
+still_or_halted : {before after : SinkState} {halted : List ℕ → Type 0} → IsUnwritten before after ⊎ IsHalted halted before after → IsQuiet before.strict before.faults after.faults
+still_or_halted (inl still) = still.quiet
 still_or_halted (inr halted) = halted.out.quiet
 
 reported_faults : {R : Type 0} (job : Job R) (ending : Ending) (before after : Desk) (diag diag' : SinkState) → IsReported job ending before after → IsUntouched diag diag'

@@ -4,10 +4,10 @@ use Rattle.std.specs.Prelude.{IsErrAnd}
 use Rattle.command_base.specs.declared.endings.Ending.{Ending}
 use Rattle.command_base.specs.declared.endings.Stop.{Stop}
 use Rattle.command_base.specs.declared.endings.Stop.TheVariants.{Refused, OpenFault, ReadFault, WriteFault, NoMemory}
-use Rattle.probe_io.specs.Devices.{Files, ShelfState, SinkState, IsUntouched}
+use Rattle.probe_io.specs.Devices.{Files, ShelfState, SinkState, IsUntouched, IsUnwritten}
 use Rattle.command_base.specs.Desks.{Desk}
 use Rattle.command_base.specs.Stages.{Stage, IsGiven, IsJudged, JudgesAs}
-use Rattle.command_base.proofs.Judging.{quiet_shelf_still}
+use Rattle.command_base.proofs.Judging.{quiet_still, quiet_shelf_still}
 use Rattle.command_base.specs.Jobs.{Texts, Job, job, refusing, IsSuchEnd, Ends, IsHalted, AreWritten, Writes}
 
 abbrev desk_of : ShelfState → SinkState → Desk
@@ -17,13 +17,16 @@ desk_of shelf out = record { shelf = shelf; out = out }
 pub untouched : (s : SinkState) → IsUntouched s s
 untouched s = record { written = refl; faults = refl }
 
+unwritten : (s : SinkState) → IsUnwritten s s
+unwritten s = record { written = refl; quiet = quiet_still s.strict s.faults }
+
 stopped_so : {R A B : Type 0} (view : B → A) (stage : Stage R A) (texts : Texts A) (a b : ShelfState) (out : SinkState) (stop : Stop R)
     → IsJudged view stage a b (Err stop) → IsSuchEnd (job stage texts) (desk_of a out) (desk_of b out) (Err stop)
 stopped_so view stage texts a b out (Refused refusal) judged = record { cause = judged.refuses; shelf = judged.shelf; out = untouched out }
 stopped_so view stage texts a b out (OpenFault which) judged = record { shelf = judged; out = untouched out }
 stopped_so view stage texts a b out (ReadFault which) judged = record { shelf = judged; out = untouched out }
 stopped_so view stage texts a b out WriteFault judged = absurd judged
-stopped_so view stage texts a b out NoMemory judged = record { out = inl (untouched out); shelf = judged }
+stopped_so view stage texts a b out NoMemory judged = record { out = inl (unwritten out); shelf = judged }
 
 -- a job whose input gives no subject
 pub job_stops : {R A B : Type 0} {view : B → A} {stage : Stage R A} {texts : Texts A} {a b : ShelfState} {out : SinkState} {stop : Stop R}
@@ -32,8 +35,8 @@ job_stops {view = view} {stage = stage} {texts = texts} {a = a} {b = b} {out = o
     record { how = stopped_so view stage texts a b out stop judges.judged }
 
 halted_so : {R A : Type 0} (stage : Stage R A) (texts : Texts A) (subject : A) (files : Files) (out out' : SinkState) → stage.gives files subject
-    → IsUntouched out out' ⊎ IsHalted (texts.halted subject) out out' → IsUntouched out out' ⊎ IsHalted ((job stage texts).halted files) out out'
-halted_so stage texts subject files out out' given (inl untouched) = inl untouched
+    → IsUnwritten out out' ⊎ IsHalted (texts.halted subject) out out' → IsUnwritten out out' ⊎ IsHalted ((job stage texts).halted files) out out'
+halted_so stage texts subject files out out' given (inl still) = inl still
 halted_so stage texts subject files out out' given (inr halted) =
     inr (record { text = halted.text; so_far = record { value = subject; given = given; holds = halted.so_far }; out = halted.out })
 

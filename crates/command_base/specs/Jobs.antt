@@ -5,7 +5,7 @@ use Rattle.command_base.specs.declared.endings.Ending.{Ending}
 use Rattle.command_base.specs.declared.endings.Ending.TheVariants.{Whole}
 use Rattle.command_base.specs.declared.endings.Stop.{Stop}
 use Rattle.command_base.specs.declared.endings.Stop.TheVariants.{Refused, OpenFault, ReadFault, WriteFault, NoMemory}
-use Rattle.probe_io.specs.Devices.{Files, SinkState, IsShelfQuiet, IsUntouched, IsPut, IsCut}
+use Rattle.probe_io.specs.Devices.{Files, SinkState, IsShelfQuiet, IsUntouched, IsUnwritten, IsPut, IsCut}
 use Rattle.command_base.specs.Desks.{Desk}
 use Rattle.command_base.specs.Stages.{Stage, Through, refused, HasNoFile, HasLostFile}
 
@@ -92,7 +92,7 @@ pub record IsHalted (halted : List ℕ → Type 0) (before after : SinkState) : 
 
 -- No memory was found, and no call on a device failed. Nothing was written, or a text at which the job may halt.
 pub record IsOutOfMemory {R : Type 0} (job : Job R) (before after : Desk) : Type 0 where
-  pub out : IsUntouched before.out after.out ⊎ IsHalted (job.halted before.shelf.files) before.out after.out
+  pub out : IsUnwritten before.out after.out ⊎ IsHalted (job.halted before.shelf.files) before.out after.out
   pub shelf : IsShelfQuiet before.shelf after.shelf
 
 abbrev pub IsSuchEnd : {R : Type 0} → Job R → Desk → Desk → Result Ending (Stop R) → Type 0
@@ -123,7 +123,7 @@ pub record WritesCut {S : Type 0} (texts : Texts S) (subject : S) (before after 
 
 -- No memory was found, and no write failed. Nothing was written, or a text at which the call may halt.
 pub record WritesSoFar {S : Type 0} (texts : Texts S) (subject : S) (before after : SinkState) : Type 0 where
-  pub out : IsUntouched before after ⊎ IsHalted (texts.halted subject) before after
+  pub out : IsUnwritten before after ⊎ IsHalted (texts.halted subject) before after
 
 abbrev pub AreWritten : {R S : Type 0} → Texts S → S → SinkState → SinkState → Result Ending (Stop R) → Type 0
 AreWritten texts subject before after (Ok ending) = WritesWhole texts subject ending before after

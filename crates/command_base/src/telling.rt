@@ -66,14 +66,28 @@ pub fn tell<R: Told + Copy, E: Sink>(end: Result<Ending, Stop<R>>, diag: &mut E)
 fn put_open_fault<E: Sink>(diag: &mut E, which: Which) -> Result<(), Failed>
     ensures { Puts (open_fault_line which) (sink_at E.Sink diag.old) (sink_at E.Sink diag.new) result }
 {
-    put_pieces(diag, &[Piece::Text(b"carafe: OpenFault "), Piece::Text(which.word()), Piece::Text(b"\n")])
+    put_pieces(
+        diag,
+        &[
+            Piece::Text(b"carafe: OpenFault "),
+            Piece::Text(which.word()),
+            Piece::Text(b"\n"),
+        ],
+    )
 }
 
 /// Writes the line of a file that could not be read.
 fn put_read_fault<E: Sink>(diag: &mut E, which: Which) -> Result<(), Failed>
     ensures { Puts (read_fault_line which) (sink_at E.Sink diag.old) (sink_at E.Sink diag.new) result }
 {
-    put_pieces(diag, &[Piece::Text(b"carafe: ReadFault "), Piece::Text(which.word()), Piece::Text(b"\n")])
+    put_pieces(
+        diag,
+        &[
+            Piece::Text(b"carafe: ReadFault "),
+            Piece::Text(which.word()),
+            Piece::Text(b"\n"),
+        ],
+    )
 }
 
 /// Writes a line that is one text.

@@ -74,7 +74,7 @@ one_mapped map cif files a b here there =
     let named = spelled.holds in
     let named' = spelled'.holds in
     let same = one_naming spelled.value spelled'.value there.value named.value named'.value (one_layout cif files spelled.value spelled'.value spelled.given spelled'.given)
-        (subst (λ plan. IsNamedFrom spelled.value plan named.value) plans named.given) named'.given in
+    (subst (λ plan. IsNamedFrom spelled.value plan named.value) plans named.given) named'.given in
     record {
       plan = ap (λ (m : MappedNets). m.plan) named.holds ∙ plans ∙ sym (ap (λ (m : MappedNets). m.plan) named'.holds);
       named = subst (λ (ns : NamedNets × NamedNets). AreSameNamed ns.0 ns.1)

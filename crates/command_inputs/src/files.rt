@@ -67,7 +67,11 @@ fn read_cif<H: Shelf>(alloc: Global, shelf: &mut H, name: &Name) -> Result<CifFi
 
 /// The formula of this name, of at most 16,777,216 bytes.
 #[tactic(auto, unfolding(crate::specs::Stages::longest_formula))]
-pub fn read_formula<H: Shelf>(alloc: Global, shelf: &mut H, name: &Name) -> Result<Formula, Stop<Refusal>>
+pub fn read_formula<H: Shelf>(
+    alloc: Global,
+    shelf: &mut H,
+    name: &Name,
+) -> Result<Formula, Stop<Refusal>>
     ensures { Judges (formula_stage name.now) (shelf_at H.Shelf shelf.old) (shelf_at H.Shelf shelf.new) result }
 {
     let too_long = Refusal::Formula(FormulaFault::TooLong);

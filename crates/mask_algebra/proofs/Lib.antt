@@ -1,4 +1,3 @@
-pub mod Drawn
 pub mod Reaches
 pub mod Layering
 pub mod Evaluating

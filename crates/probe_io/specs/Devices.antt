@@ -60,6 +60,11 @@ pub record IsUntouched (before after : SinkState) : Type 0 where
   pub written : after.written ≡ before.written
   pub faults : after.faults ≡ before.faults
 
+-- nothing was written, and no call on the sink failed
+pub record IsUnwritten (before after : SinkState) : Type 0 where
+  pub written : after.written ≡ before.written
+  pub quiet : IsQuiet before.strict before.faults after.faults
+
 -- the whole text was written, and no write failed
 pub record IsPut (text : List ℕ) (before after : SinkState) : Type 0 where
   pub written : Appends before.written after.written text

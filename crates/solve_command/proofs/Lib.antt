@@ -1,1 +1,2 @@
 pub mod SolveExact
+pub mod SoFar

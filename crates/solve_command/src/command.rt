@@ -1,6 +1,6 @@
 //! The command, from its words to its report.
 
-ghost use Rattle.std.specs.Prelude.{◌≡◌, ◌≤◌};
+ghost use Rattle.std.specs.Prelude.{◌≤◌, IfOk};
 ghost use Rattle.probe_io.specs.Devices.{shelf_at, sink_at};
 ghost use Rattle.command_base.specs.Desks.{desk};
 ghost use Rattle.command_base.specs.Stages.{JudgesAs};
@@ -37,7 +37,11 @@ pub fn solve<H: Shelf, K: Sink>(
 }
 
 /// What the words ask for.
-fn read_search<H: Shelf>(alloc: Global, words: &[Name], shelf: &mut H) -> Result<Search, Stop<Refusal>>
+fn read_search<H: Shelf>(
+    alloc: Global,
+    words: &[Name],
+    shelf: &mut H,
+) -> Result<Search, Stop<Refusal>>
     ensures judges { JudgesAs searched (solve_stage words.now) (shelf_at H.Shelf shelf.old) (shelf_at H.Shelf shelf.new) result }
     ensures some { IfOk result (λ search. 1 ≤ search.budget) }
 {
@@ -63,7 +67,11 @@ fn read_parts<H: Shelf>(
 }
 
 /// Writes the report of the search.
-fn write_report<K: Sink>(alloc: Global, search: &Search, out: &mut K) -> Result<Ending, Stop<Refusal>>
+fn write_report<K: Sink>(
+    alloc: Global,
+    search: &Search,
+    out: &mut K,
+) -> Result<Ending, Stop<Refusal>>
     requires { 1 ≤ search.now.budget }
     ensures { Writes solve_texts (searched search.now) (sink_at K.Sink out.old) (sink_at K.Sink out.new) result }
 {

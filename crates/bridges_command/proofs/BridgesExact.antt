@@ -1,5 +1,5 @@
 -- The words of `bridges` have one refusal at most, none beside a report, and one report at most.
-use Rattle.std.proofs.Common.{◌≡◌, ℕ, List, [], ◌∷◌, Option, Some, refl, sym, ◌∙◌, ap, subst}
+use Rattle.std.proofs.Common.{◌≡◌, ℕ, List, [], ◌∷◌, Option, Some, refl, sym, ◌∙◌, ap, subst, arith}
 use Rattle.probe_io.specs.Files.{File}
 use Rattle.layer_map.specs.Plan.{wire_names}
 use Rattle.net_trace.specs.Touching.{Nets}

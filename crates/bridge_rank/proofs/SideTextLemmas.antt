@@ -1,5 +1,5 @@
 -- The word of sides, entry by entry.
-use Rattle.std.proofs.Common.{◌≡◌, ℕ, List, [], ◌∷◌, ◌++◌, flat_map, ap}
+use Rattle.std.proofs.Common.{◌≡◌, List, [], ◌∷◌, ◌++◌, flat_map, ap}
 use Rattle.std.proofs.lemmas.List.{append-nil}
 use Rattle.defect_sweep.specs.declared.sides.SideWeight.{SideWeight}
 use Rattle.defect_sweep.specs.SideTexts.{comma, entry_text, next_text, sides_text}

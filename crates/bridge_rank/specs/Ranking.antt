@@ -1,5 +1,5 @@
 -- The order in which pairs of nets are listed.
-use Rattle.std.specs.Prelude.{ℕ, ◌≤◌, List, length, IsPermutation, IsSorted}
+use Rattle.std.specs.Prelude.{◌≤◌, List, length, IsPermutation, IsSorted}
 use Rattle.std.specs.declared.cmp.Ordering.{Ordering}
 use Rattle.std.specs.Ordering.{nat_cmp, ordering_then}
 use Rattle.net_trace.specs.Touching.{Nets}

@@ -1,13 +1,10 @@
 -- The words of `bridges` have one refusal at most, none beside a report, and one report at most.
-use Rattle.std.proofs.Common.{◌≡◌, ℕ, List, [], ◌∷◌, Option, Some, refl, sym, ◌∙◌, ap, subst, arith}
+use Rattle.std.proofs.Common.{◌≡◌, ℕ, List, [], ◌∷◌, Some, sym, ◌∙◌, ap, subst, arith}
 use Rattle.probe_io.specs.Files.{File}
 use Rattle.layer_map.specs.Plan.{wire_names}
 use Rattle.net_trace.specs.Touching.{Nets}
 use Rattle.net_trace.specs.Same.{AreSameNets}
-use Rattle.layout_extract.specs.Layouts.{NamedNets}
-use Rattle.layout_extract.specs.Same.{AreSameNamed}
 use Rattle.defect_sweep.specs.declared.sides.SideWeight.{SideWeight}
-use Rattle.defect_sweep.specs.declared.refusal.SweepRefusal.{SweepRefusal}
 use Rattle.defect_sweep.specs.Counting.{BridgeCount}
 use Rattle.defect_sweep.specs.Bridges.{HasManyBridges}
 use Rattle.defect_sweep.proofs.OneCounting.{many}
@@ -17,12 +14,11 @@ use Rattle.bridge_rank.proofs.Ranks.{one_ranking}
 use Rattle.command_base.specs.declared.endings.Ending.{Ending}
 use Rattle.command_base.specs.Exact.{AreAlike, IsExact}
 use Rattle.command_base.proofs.Alike.{exact_job, spelled_alike, refused_alike, layers_alike, just_alike, then_alike, then_exact}
-use Rattle.command_inputs.specs.Sides.{SpellsSides}
 use Rattle.command_inputs.specs.Stages.{MappedNets, layout_stage}
 use Rattle.command_inputs.proofs.SideLemmas.{one_word}
 use Rattle.command_inputs.proofs.StageLemmas.{AreSameMapped, layout_alike, one_mapped}
 use Rattle.bridges_command.specs.Report.{report_text}
-use Rattle.bridges_command.specs.Command.{Subject, RefusesSweep, ranked_stage, subject_stage, bridges_stage, bridges_job, text_on}
+use Rattle.bridges_command.specs.Command.{Subject, ranked_stage, subject_stage, bridges_job, text_on}
 use Rattle.bridges_command.specs.Reports.{AreOneReport}
 
 -- a ranked list has no more bridges than may be

@@ -1,5 +1,5 @@
 -- The lines of bridges, one by one.
-use Rattle.std.proofs.Common.{◌≡◌, ℕ, suc, ◌+◌, ◌<◌, ◌≤◌, List, [], ◌∷◌, ◌++◌, length, take, drop, get_or, map, sym, ◌∙◌, ap, subst, arith, append_assoc}
+use Rattle.std.proofs.Common.{◌≡◌, ℕ, suc, ◌+◌, ◌<◌, List, [], ◌∷◌, ◌++◌, length, take, drop, get_or, map, sym, ◌∙◌, ap, subst, arith, append_assoc}
 use Rattle.std.specs.Prelude.{codes}
 use Rattle.std.proofs.lemmas.List.{take_more, take-append-drop, drop_more, length-take-le, append-nil}
 use Rattle.probe_io.specs.Devices.{SinkState, IsPut, IsCut}
@@ -25,7 +25,7 @@ bridge_lines-append : (wires names : List (List ℕ)) (place : ℕ) (xs ys : Lis
 bridge_lines-append wires names place [] ys = ap (λ n. bridge_lines wires names n ys) (omega arith)
 bridge_lines-append wires names place (x ∷ xs) ys =
     ap (λ t. line_at wires names place x ++ t)
-        (bridge_lines-append wires names (suc place) xs ys ∙ ap (λ n. bridge_lines wires names (suc place) xs ++ bridge_lines wires names n ys) (omega arith))
+    (bridge_lines-append wires names (suc place) xs ys ∙ ap (λ n. bridge_lines wires names (suc place) xs ++ bridge_lines wires names n ys) (omega arith))
     ∙ sym (append_assoc (line_at wires names place x) (bridge_lines wires names (suc place) xs) (bridge_lines wires names (place + suc (length xs)) ys))
 
 -- the lines before one, that line, and those after it

@@ -2,7 +2,6 @@
 use Rattle.std.specs.Prelude.{◌≡◌, ℕ, List, Some}
 use Rattle.probe_io.specs.Files.{File}
 use Rattle.command_base.specs.declared.endings.Ending.{Ending}
-use Rattle.command_base.specs.Jobs.{Job}
 use Rattle.bridges_command.specs.Command.{bridges_job}
 
 abbrev pub AreOneReport : List (List ℕ) → List File → Ending → Ending → List ℕ → List ℕ → Type 0

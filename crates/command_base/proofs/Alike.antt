@@ -1,10 +1,9 @@
 -- Which stages have one refusal, and none beside a value, where the files are told.
-use Rattle.std.proofs.Common.{◌≡◌, ◌⊎◌, inl, inr, ℕ, Bool, true, false, ◌<◌, ◌≤◌, List, length, Option, Some, None, refl, sym, ◌∙◌, ap, subst, arith}
+use Rattle.std.proofs.Common.{◌≡◌, inl, inr, ℕ, Bool, true, false, ◌<◌, ◌≤◌, List, length, Option, Some, None, sym, ◌∙◌, ap, subst, arith}
 use Rattle.std.specs.Prelude.{unwrap_or, IsSomeAnd}
-use Rattle.probe_io.specs.Files.{File, IsFile, IsFileOver, file_of}
+use Rattle.probe_io.specs.Files.{File, IsFile, file_of}
 use Rattle.command_base.specs.declared.endings.Which.{Which}
-use Rattle.command_base.specs.declared.endings.Ending.{Ending}
-use Rattle.command_base.specs.Stages.{Stage, Through, then, just, refused, file, layer, spelled}
+use Rattle.command_base.specs.Stages.{Stage, then, just, refused, file, layer, spelled}
 use Rattle.command_base.specs.Jobs.{Texts, Job, job, choose, refusing}
 use Rattle.command_base.specs.Exact.{AreAlike, IsExact}
 

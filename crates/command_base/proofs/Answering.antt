@@ -1,15 +1,13 @@
 -- What a status says, from the end of the job that it tells.
-use Rattle.std.proofs.Common.{◌≡◌, ◌⊎◌, inl, inr, ℕ, Bool, true, false, List, Option, Some, Result, Ok, Err, refl, sym, ◌∙◌, ap, subst, arith}
+use Rattle.std.proofs.Common.{◌≡◌, ◌⊎◌, inl, inr, ℕ, List, Some, Result, Ok, Err, sym, ◌∙◌, ap, subst, arith}
 use Rattle.probe_io.specs.Files.{File, Lacks}
-use Rattle.command_base.specs.declared.endings.Which.{Which}
-use Rattle.command_base.specs.declared.endings.Stream.TheVariants.{Out, Diag}
 use Rattle.command_base.specs.declared.endings.Ending.{Ending}
 use Rattle.command_base.specs.declared.endings.Ending.TheVariants.{Whole, Undecided, No}
 use Rattle.command_base.specs.declared.endings.Stop.{Stop}
 use Rattle.command_base.specs.declared.endings.Stop.TheVariants.{Refused, OpenFault, ReadFault, WriteFault, NoMemory}
 use Rattle.command_base.specs.declared.endings.AnyStatus.{AnyStatus}
-use Rattle.command_base.specs.declared.endings.AnyStatus.TheVariants.{Done, DoneUndecided, DoneNo, Refused as IsRefusedFor, OpenFault as NotOpened, ReadFault as NotRead, WriteFault as NotWritten, NoMemory as OutOfMemory}
-use Rattle.probe_io.specs.Devices.{SinkState, IsQuiet, IsUntouched, IsUnwritten, IsPut, IsCut}
+use Rattle.command_base.specs.declared.endings.AnyStatus.TheVariants.{Refused as IsRefusedFor}
+use Rattle.probe_io.specs.Devices.{SinkState, IsQuiet, IsUntouched, IsUnwritten}
 use Rattle.command_base.specs.Desks.{Desk}
 use Rattle.command_base.specs.Jobs.{Job, IsReported, IsSuchEnd, IsHalted}
 use Rattle.command_base.specs.Answers.{done_of, IsToldRefusal, IsToldAs, IsAnswer, IsInterrupted, RefusesWhere, IsInOrder, IsFaultless, IsComplete, ReportsWhere, TellsFaults}

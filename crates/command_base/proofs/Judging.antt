@@ -1,14 +1,13 @@
 -- Calls that judge by stages, one after the other.
-use Rattle.std.proofs.Common.{◌≡◌, ◌⊎◌, inl, inr, ℕ, ◌≤◌, Bool, true, List, Option, Some, None, Result, Ok, Err, refl, sym, ◌∙◌, subst, arith}
+use Rattle.std.proofs.Common.{◌≡◌, ◌⊎◌, inl, inr, ℕ, ◌≤◌, Bool, List, Option, Some, None, Result, Ok, Err, refl, sym, ◌∙◌, subst, arith}
 use Rattle.std.specs.Prelude.{IsErrAnd}
 use Rattle.probe_io.specs.Causes.{Rose}
 use Rattle.probe_io.specs.Files.{Lacks}
-use Rattle.command_base.specs.declared.endings.Which.{Which}
 use Rattle.command_base.specs.declared.endings.Stop.{Stop}
 use Rattle.command_base.specs.declared.endings.Stop.TheVariants.{Refused, OpenFault, ReadFault, WriteFault, NoMemory}
 use Rattle.probe_io.proofs.Putting.{quiet_twice, rose_later}
 use Rattle.probe_io.specs.Devices.{Files, ShelfState, IsQuiet, IsShelfQuiet, IsUnopened, IsUnread}
-use Rattle.command_base.specs.Stages.{Stage, then, just, refused, layer, spelled, HasNoFile, HasLostFile, IsGiven, IsTurnedDown, IsJudged, JudgesAs}
+use Rattle.command_base.specs.Stages.{Stage, then, just, refused, layer, spelled, IsGiven, IsJudged, JudgesAs}
 use Rattle.command_base.specs.Carrying.{stop_for}
 
 -- a shelf that stayed twice stayed

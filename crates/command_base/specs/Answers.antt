@@ -1,5 +1,5 @@
 -- What the status of a call says, for every command: of its input, its report, its line of diagnostics and its devices.
-use Rattle.std.specs.Prelude.{◌≡◌, ℕ, ◌≤◌, ◌<◌, ◌⊎◌, Bool, true, false, List, [], ◌++◌, codes, Option, Some, Result, Ok, Err}
+use Rattle.std.specs.Prelude.{◌≡◌, ℕ, ◌⊎◌, Bool, true, false, List, ◌++◌, codes, Some, Result, Ok, Err}
 use Rattle.probe_io.specs.Causes.{Rose}
 use Rattle.probe_io.specs.Files.{File, Lacks}
 use Rattle.command_base.specs.declared.endings.Which.{Which}
@@ -11,7 +11,7 @@ use Rattle.command_base.specs.declared.endings.Stop.{Stop}
 use Rattle.command_base.specs.declared.endings.Stop.TheVariants.{Refused, OpenFault, ReadFault, WriteFault, NoMemory}
 use Rattle.command_base.specs.declared.endings.AnyStatus.{AnyStatus}
 use Rattle.command_base.specs.declared.endings.AnyStatus.TheVariants.{Done, DoneUndecided, DoneNo, Refused as IsRefusedFor, OpenFault as NotOpened, ReadFault as NotRead, WriteFault as NotWritten, NoMemory as OutOfMemory}
-use Rattle.probe_io.specs.Devices.{Files, ShelfState, SinkState, IsQuiet, IsShelfQuiet, IsUntouched, IsPut, IsCut}
+use Rattle.probe_io.specs.Devices.{Files, SinkState, IsQuiet, IsUntouched, IsPut, IsCut}
 use Rattle.command_base.specs.Desks.{Desk}
 use Rattle.command_base.specs.Jobs.{Job, Ends}
 

@@ -1,5 +1,5 @@
 -- Which answers exclude each other, where the files are told.
-use Rattle.std.specs.Prelude.{◌≡◌, ℕ, List, Option, Some}
+use Rattle.std.specs.Prelude.{◌≡◌, ℕ, List, Some}
 use Rattle.probe_io.specs.Files.{File}
 use Rattle.command_base.specs.declared.endings.Ending.{Ending}
 use Rattle.command_base.specs.Stages.{Stage}

@@ -1,5 +1,5 @@
 -- A command as one value: the stages in which its input is judged, and the texts that it may write.
-use Rattle.std.specs.Prelude.{◌≡◌, ℕ, ◌⊎◌, Bool, true, false, List, [], Option, Some, Result, Ok, Err}
+use Rattle.std.specs.Prelude.{◌≡◌, ℕ, ◌⊎◌, Bool, true, false, List, [], Result, Ok, Err}
 use Rattle.command_base.specs.declared.endings.Which.{Which}
 use Rattle.command_base.specs.declared.endings.Ending.{Ending}
 use Rattle.command_base.specs.declared.endings.Ending.TheVariants.{Whole}

@@ -1,6 +1,5 @@
 -- The inputs have one refusal at most, and none beside what they give, where the files are told.
-use Rattle.std.proofs.Common.{◌≡◌, ℕ, List, Option, Some, None, sym, ◌∙◌, ap, subst}
-use Rattle.std.specs.Prelude.{◌≢◌}
+use Rattle.std.proofs.Common.{◌≡◌, ℕ, List, Some, sym, ◌∙◌, ap, subst}
 use Rattle.probe_io.specs.Files.{File}
 use Rattle.layer_map.specs.Plan.{Plan}
 use Rattle.layer_map.specs.Faults.{Accepts as AcceptsMap}
@@ -15,15 +14,12 @@ use Rattle.layout_extract.specs.declared.refusal.LayoutRefusal.TheVariants.{NoMe
 use Rattle.layout_extract.specs.Layouts.{NamedNets, IsNamedFrom}
 use Rattle.layout_extract.specs.Same.{AreSameNamed}
 use Rattle.layout_extract.proofs.SameLayouts.{one_reason, never_both_named, one_naming}
-use Rattle.defect_sweep.specs.declared.sides.SideWeight.{SideWeight}
-use Rattle.clause_base.specs.Formulas.{Clauses}
-use Rattle.clause_base.specs.FormulaText.{SpellsFormula}
-use Rattle.clause_base.proofs.FaultLemmas.{one_formula_of, one_fault as one_formula_fault, not_both as not_both_formula}
+use Rattle.clause_base.proofs.FaultLemmas.{one_fault as one_formula_fault, not_both as not_both_formula}
 use Rattle.command_refusals.specs.declared.refusal.Refusal.{Refusal}
 use Rattle.command_refusals.specs.Carried.{layout_carried}
 use Rattle.command_base.specs.Exact.{AreAlike}
 use Rattle.command_base.proofs.Alike.{file_alike, one_file, layer_alike, layers_alike, just_alike, then_alike, then_exact}
-use Rattle.command_inputs.specs.Stages.{MappedNets, longest_map, longest_cif, longest_formula, map_stage, cif_stage, nets_stage, layout_stage, formula_stage}
+use Rattle.command_inputs.specs.Stages.{MappedNets, map_stage, cif_stage, nets_stage, layout_stage, formula_stage}
 
 -- ---- the map
 

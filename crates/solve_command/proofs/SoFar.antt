@@ -1,7 +1,6 @@
 -- What stands where a search found no memory.
-use Rattle.std.proofs.Common.{◌≡◌, inl, inr, ℕ, ◌≤◌, Bool, true, Err}
-use Rattle.clause_base.specs.Formulas.{Clauses}
-use Rattle.probe_io.specs.Devices.{SinkState, IsQuiet}
+use Rattle.std.proofs.Common.{◌≡◌, inl, inr, ◌≤◌, true, Err}
+use Rattle.probe_io.specs.Devices.{SinkState}
 use Rattle.solve_report.specs.Report.{WritesReportSoFar}
 use Rattle.command_base.specs.declared.endings.Stop.TheVariants.{NoMemory}
 use Rattle.command_base.specs.Jobs.{Writes}

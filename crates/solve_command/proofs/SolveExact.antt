@@ -1,6 +1,5 @@
 -- The words of `solve` have one refusal at most, and none beside a report.
-use Rattle.std.proofs.Common.{◌≡◌, ℕ, List, [], ◌∷◌, Option, Some, sym, ◌∙◌}
-use Rattle.std.specs.Fmt.{decimal}
+use Rattle.std.proofs.Common.{ℕ, List, [], ◌∷◌}
 use Rattle.probe_io.specs.Files.{File}
 use Rattle.command_base.specs.Exact.{AreAlike, IsExact}
 use Rattle.command_base.proofs.Alike.{exact_job, spelled_alike, refused_alike, just_alike, then_alike}

@@ -1,7 +1,6 @@
 -- The command `solve FORMULA BUDGET`.
-use Rattle.std.specs.Prelude.{◌≡◌, ℕ, ◌<◌, ◌^◌, List, [], ◌∷◌}
+use Rattle.std.specs.Prelude.{ℕ, ◌<◌, ◌^◌, List, [], ◌∷◌}
 use Rattle.clause_base.specs.Formulas.{Clauses}
-use Rattle.solve_report.specs.declared.ending.Ending.{Ending as SearchEnding}
 use Rattle.solve_report.specs.declared.ending.Ending.TheVariants.{Decided, Undecided}
 use Rattle.solve_report.specs.Report.{IsSolveReport, IsReportSoFar, IsReportOrSoFar}
 use Rattle.command_base.specs.declared.endings.Ending.{Ending}

@@ -1,5 +1,5 @@
 -- Texts that are written one after the other.
-use Rattle.std.proofs.Common.{◌≡◌, inl, inr, ℕ, ◌<◌, ◌≤◌, Bool, true, List, ◌++◌, length, take, get_or, flat_map, Result, Ok, Err, OnOk, OnErr, sym, ◌∙◌, subst, arith}
+use Rattle.std.proofs.Common.{◌≡◌, inl, inr, ℕ, ◌<◌, ◌≤◌, Bool, List, ◌++◌, length, take, get_or, flat_map, Result, Ok, Err, OnOk, OnErr, ◌∙◌, subst, arith}
 use Rattle.std.specs.Prelude.{IsErr}
 use Rattle.probe_io.specs.Causes.{Rose, HasCause}
 use Rattle.probe_io.specs.Written.{Appends, AppendsFront}

@@ -30,6 +30,3 @@ pub use reading::{ReadAllFault, read_all};
 pub use real::{FileShelf, StreamSink};
 pub use sure::{SureShelf, SureSink};
 pub use writing::{put_all, put_number};
-
-#[cfg(test)]
-mod tests;

@@ -28,6 +28,3 @@ pub use pair::StepPair;
 pub use printing::{put_clause, put_derived, put_given};
 pub use sink::{ProofSink, StepFault};
 pub use text::StepText;
-
-#[cfg(test)]
-mod tests;

@@ -17,6 +17,3 @@ mod verdict_line;
 pub use ending::{Ending, ReportFault};
 pub use laws::one_sorted_form;
 pub use report::write;
-
-#[cfg(test)]
-mod tests;

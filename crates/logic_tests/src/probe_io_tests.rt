@@ -1,5 +1,5 @@
-// The devices in memory with faults at chosen calls, and those of the system over a real file.
-use crate::*;
+//! The devices in memory with faults at chosen calls, and those of the system over a real file.
+use probe_io::*;
 use std::alloc::{AllocError, Global};
 use std::fs;
 use std::test::Fail;

@@ -2,11 +2,12 @@
 
 ghost use Rattle.std.specs.Prelude.{◌≡◌, true, []};
 
-use crate::{
+use crate::fixtures::lits;
+use clause_base::Clause;
+use probe_io::{Failed, MemSink};
+use proof_sinks::{
     ProofSink, Said, StepCheck, StepFail, StepFault, StepList, StepPair, StepText, put_clause,
 };
-use clause_base::{Clause, Lit};
-use probe_io::{Failed, MemSink};
 use refutation_check::Checker;
 use std::alloc::{AllocError, Global};
 use std::test::Fail;
@@ -15,11 +16,7 @@ const TEXT: &[u8] = b"f 1 2 0\nf 1 -2 0\nf -1 2 0\nf -1 -2 0\nd 5 1 0 1 2 0\nd 6
 
 /// The clause of these numbers.
 fn clause(alloc: Global, numbers: &[i32]) -> Result<Clause, AllocError> {
-    let lits: Vec<Lit> = numbers
-        .iter()
-        .filter_map(|number| Lit::new(*number))
-        .collect(alloc)?;
-    Clause::new(alloc, lits.as_slice())
+    Clause::new(alloc, lits(alloc, numbers)?.as_slice())
 }
 
 /// The clauses of the formula, and the two that refute it.

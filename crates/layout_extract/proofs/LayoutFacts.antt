@@ -23,7 +23,7 @@ use Rattle.layout_extract.specs.Layouts.{NamedNets, AreLayoutMasks, AreJoinedAs,
 use Rattle.layout_extract.specs.Tags.{is_bound, is_unbound, is_deep, HasNoAmbiguous, HasAmbiguousAt, AreSpotsOf, AreJoinedAt, AreNamesAt}
 use Rattle.layout_extract.proofs.Bridge.{are_clear, first_is, spot_bound, bound_spot}
 use Rattle.layout_extract.proofs.CountLists.{bound_counted, unbound_counted, deep_counted}
-use Rattle.layout_extract.proofs.NetBridge.{AreSpotted, joined_as, names_are}
+use Rattle.layout_extract.proofs.NetBridge.{AreSpotted, joined_as, names_are, bound_names_are}
 use Rattle.mask_region.proofs.Areas.{count_by_length}
 
 -- one mask for each line
@@ -57,7 +57,7 @@ module _ (plan : Plan) (lists : Lists) (masks : MaskLists) (are : AreLayoutMasks
     pub clear : HasNoAmbiguous bindings (length marks)
     pub spotted : AreSpotsOf marks bindings (length marks) spots
     pub joined : AreJoinedAt plan spots nets named.nets
-    pub names : AreNamesAt spots named.nets named.names
+    pub names : AreNamesAt spots named.nets named.names named.bound_names
     pub masks_is : named.masks ≡ masks
     pub bound : named.bound ≡ count_by is_bound bindings
     pub unbound : named.unbound ≡ count_by is_unbound bindings
@@ -73,20 +73,21 @@ module _ (plan : Plan) (lists : Lists) (masks : MaskLists) (are : AreLayoutMasks
     joined_so : AreJoinedAs (labelled_by plan masks lists.marks) named.nets
     joined_so = joined_as (traced_nets plan masks) refl plan lists.marks spots spotted_so h.joined.tags h.joined.are h.joined.pairs h.joined.joins named.nets h.joined.by
 
-    by_masks : IsNamed plan lists (record { nets = named.nets; masks = masks; names = named.names; bound = named.bound; unbound = named.unbound; deep = named.deep })
+    by_masks : IsNamed plan lists (record { nets = named.nets; masks = masks; names = named.names; bound_names = named.bound_names; bound = named.bound; unbound = named.unbound; deep = named.deep })
     by_masks = record {
       masks = are;
       few = h.steps.few;
       clear = are_clear (traced_nets plan masks) plan lists.marks bindings h.steps.zip refl h.clear;
       nets = joined_so;
       names = names_are (traced_nets plan masks) refl plan lists.marks spots spotted_so named.nets joined_so h.names.tags h.names.are named.names h.names.count h.names.each;
+      bound_names = bound_names_are (traced_nets plan masks) refl plan lists.marks spots spotted_so named.nets joined_so h.names.tags h.names.are named.bound_names h.names.kept;
       bound = h.bound ∙ bound_counted (traced_nets plan masks) plan lists.marks bindings h.steps.zip;
       unbound = h.unbound ∙ unbound_counted (traced_nets plan masks) plan lists.marks bindings h.steps.zip;
       deep = h.deep ∙ deep_counted (traced_nets plan masks) plan lists.marks bindings h.steps.zip;
     }
 
     named_here : IsNamed plan lists named
-    named_here = subst (λ m. IsNamed plan lists (record { nets = named.nets; masks = m; names = named.names; bound = named.bound; unbound = named.unbound; deep = named.deep })) (sym h.masks_is) by_masks
+    named_here = subst (λ m. IsNamed plan lists (record { nets = named.nets; masks = m; names = named.names; bound_names = named.bound_names; bound = named.bound; unbound = named.unbound; deep = named.deep })) (sym h.masks_is) by_masks
 
   pub is_named : (nets : Nets) (marks : List Mark) (bindings : List Binding) (spots : List Spot) (named : NamedNets) → nets ≡ traced_nets plan masks → marks ≡ lists.marks → AreNamedSteps nets marks bindings spots named → IsNamed plan lists named
   is_named nets marks bindings spots named nets_is marks_is h =

@@ -3,9 +3,11 @@ use Rattle.std.proofs.Common.{◌≡◌, ℕ, ◌==◌, ◌&&◌, inl, inr, Bool
 use Rattle.std.specs.Option.{option_map}
 use Rattle.std.specs.List.{AllZip, list_any}
 use Rattle.std.specs.Ordering.{nat_cmp, is_le}
+use Rattle.std.specs.Str.{bytes_eq}
 use Rattle.std.specs.Cmp.Lexicographic.{slice_cmp}
 use Rattle.std.proofs.lemmas.Bool.{and_parts, and_from, or_cases, or_left, or_right}
 use Rattle.std.proofs.lemmas.Bool.Decides.{Decides-eqb}
+use Rattle.std.proofs.lemmas.Slice.Eq.{bytes_eq-Decides}
 use Rattle.std.proofs.lemmas.Option.{slice_get-map, slice_get_within, get_or_from_slice_get}
 use Rattle.switch_net.specs.declared.NetId.{NetId}
 use Rattle.cif_flatten.specs.declared.flat.Mark.{Mark}
@@ -21,10 +23,11 @@ use Rattle.net_trace.specs.Touching.{Cut, Nets, is_node, touches}
 use Rattle.net_trace.specs.Nets.{node_cmp, is_same, is_joined, is_link, AreNetRoots, IsNetNumber, IsNetCount, IsJoinedBy}
 use Rattle.layout_extract.specs.declared.tags.Spot.{Spot}
 use Rattle.layout_extract.specs.declared.tags.Tag.{Tag}
+use Rattle.layout_extract.specs.declared.named.BoundName.{BoundName}
 use Rattle.layout_extract.specs.Labels.{is_bound_at}
-use Rattle.layout_extract.specs.Names.{Labelled, is_joining, is_joined_by_name, is_net_link, IsNamedNumber, IsBoundName, IsLeastName, IsNameOf}
+use Rattle.layout_extract.specs.Names.{Labelled, is_joining, is_joined_by_name, is_net_link, IsNamedNumber, IsBoundName, is_listed_name, AreBoundNames, IsLeastName, IsNameOf}
 use Rattle.layout_extract.specs.Layouts.{AreJoinedAs, AreNames}
-use Rattle.layout_extract.specs.Tags.{IsTagOf, numbers_of, IsPairOf, AreJoins, IsLeast, name_or, IsNameBy}
+use Rattle.layout_extract.specs.Tags.{IsTagOf, numbers_of, IsPairOf, AreJoins, IsLeast, name_or, IsNameBy, IsKept}
 use Rattle.layout_extract.proofs.Places.{any_at, place_of, zip_left, zip_right}
 use Rattle.net_trace.proofs.NetNumbers.{net_one, net_links}
 use Rattle.layout_extract.proofs.Bridge.{link_touch, spot_node}
@@ -239,3 +242,21 @@ module _ (nets : Nets) (none : nets.joins ≡ []) (plan : Plan) (marks : List Ma
         count = record { roots = count.roots; are = roots_by (is_node nets) (is_node new) (is_net_link g) (is_link new) nodes same.sound same.whole count.roots count.are; is = count.is };
         each = λ net name at. let by = each net name at in by_first net name by.first by.least by.is;
       }
+
+      pub bound_names_are : (list : List BoundName) → AllZip IsKept tags list → AreBoundNames g list
+      bound_names_are list kept = record { exact = λ net name. (there net name, back net name) }
+        where
+          there : (net : ℕ) (name : List ℕ) → is_listed_name list net name ≡ true → IsBoundName g net name
+          there net name listed =
+              let (k, b, at, is) = place_of (λ (b : BoundName). b.net.0 == net && bytes_eq b.name name) list listed in
+              let (is_net, is_name) = and_parts (b.net.0 == net) (bytes_eq b.name name) is in
+              let (t, at_t, same) = zip_right IsKept tags list k b kept at in
+              let of_net = ap (λ (n : NetId). n.0) (sym same.net) ∙ (Decides-eqb b.net.0 net).0 is_net in
+              let of_name = sym same.name ∙ (bytes_eq-Decides b.name name).0 is_name in
+              subst (λ n. IsBoundName g n name) of_net (subst (λ x. IsBoundName g t.net.0 x) of_name (tag_name k t at_t))
+          back : (net : ℕ) (name : List ℕ) → IsBoundName g net name → is_listed_name list net name ≡ true
+          back net name bound =
+              let (j, t, at, name_is, of) = name_tag net name bound in
+              let (b, at_b, same) = zip_left IsKept tags list j t kept at in
+              any_at (λ (b : BoundName). b.net.0 == net && bytes_eq b.name name) list j b at_b
+              (and_from (b.net.0 == net) (bytes_eq b.name name) ((Decides-eqb b.net.0 net).1 (ap (λ (n : NetId). n.0) same.net ∙ of)) ((bytes_eq-Decides b.name name).1 (same.name ∙ name_is)))

@@ -7,6 +7,7 @@ use Rattle.std.specs.Fmt.{decimal}
 use Rattle.std.specs.Ordering.{int_eq, nat_cmp, is_le}
 use Rattle.std.specs.declared.cmp.Ordering.{Ordering}
 use Rattle.std.specs.declared.cmp.Ordering.TheVariants.{Less, Equal, Greater}
+use Rattle.std.specs.Cmp.{both_ways}
 use Rattle.std.specs.Cmp.Lexicographic.{slice_cmp}
 use Rattle.std.specs.FinMap.{nat_cmp-IsAntisymmetric, slice_cmp-IsAntisymmetric}
 use Rattle.std.proofs.lemmas.Cmp.{nat_list_cmp_total}
@@ -36,7 +37,7 @@ use Rattle.net_trace.specs.Nets.{node_cmp, is_joined, is_link, HasMoreNets}
 use Rattle.layout_extract.specs.declared.refusal.LayoutRefusal.{LayoutRefusal}
 use Rattle.layout_extract.specs.declared.refusal.LayoutRefusal.TheVariants.{Flat, TooManyNets, LabelAmbiguous, NoMemory}
 use Rattle.layout_extract.specs.Labels.{tried_wires, cells_round, is_round, label_wire, is_shallow, is_wire, is_bound_at, IsAmbiguous, IsFirstAmbiguous, count_bound, count_unbound}
-use Rattle.layout_extract.specs.Names.{Labelled, is_joining, is_net_link, IsNamedNumber, IsNamedCount, IsBoundName, IsNameOf}
+use Rattle.layout_extract.specs.Names.{Labelled, is_joining, is_net_link, IsNamedNumber, IsNamedCount, IsBoundName, is_listed_name, IsNameOf}
 use Rattle.layout_extract.specs.Same.{AreSameNamed}
 use Rattle.layout_extract.specs.Layouts.{NamedNets, AreLayoutMasks, labelled_by, AreJoinedAs, IsNamed, HasManyPieces, HasAmbiguous, IsNamedFrom, RefusesLayout}
 use Rattle.net_trace.proofs.NodeOrder.{node_total, node_equal}
@@ -243,6 +244,9 @@ named_on plan f g n m draws marks here there =
             (number_over (is_node m.nets) (is_node second.nets) (is_link m.nets) (is_net_link second) (joined_nodes second m.nets moved.nets) moved.nets.sound moved.nets.whole p k h));
       };
       names = same_list n.names m.names counts (λ k x y at_x at_y. one_name first second k x y (bound_name plan f.marks a b nodes touch k) (bound_name plan f.marks b a nodes_back touches_back k) (here.names.each k x at_x) (moved.names.each k y at_y));
+      bound_names = λ net name. both_ways (is_listed_name n.bound_names net name) (is_listed_name m.bound_names net name)
+          (λ listed. (moved.bound_names.exact net name).1 (bound_name plan f.marks a b nodes touch net name ((here.bound_names.exact net name).0 listed)))
+          (λ listed. (here.bound_names.exact net name).1 (bound_name plan f.marks b a nodes_back touches_back net name ((moved.bound_names.exact net name).0 listed)));
       bound = here.bound ∙ bound_count plan f.marks a b nodes touch ∙ sym moved.bound;
       unbound = here.unbound ∙ unbound_count plan f.marks a b nodes touch ∙ sym moved.unbound;
       deep = here.deep ∙ sym moved.deep;

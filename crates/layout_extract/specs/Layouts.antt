@@ -15,14 +15,16 @@ use Rattle.net_trace.specs.Nets.{is_link, HasMoreNets}
 use Rattle.layout_extract.specs.declared.refusal.LayoutRefusal.{LayoutRefusal}
 use Rattle.layout_extract.specs.declared.refusal.LayoutRefusal.TheVariants.{Flat, TooManyNets, LabelAmbiguous, NoMemory}
 use Rattle.layout_extract.specs.Labels.{AreClear, IsFirstAmbiguous, count_bound, count_unbound, count_deep}
-use Rattle.layout_extract.specs.Names.{Labelled, is_net_link, IsNamedCount, IsNameOf}
+use Rattle.layout_extract.specs.declared.named.BoundName.{BoundName}
+use Rattle.layout_extract.specs.Names.{Labelled, is_net_link, IsNamedCount, IsNameOf, AreBoundNames}
 
--- traced nets, the masks of the layout, the names of the nets in the order of their numbers, and how many labels are
--- bound, are not bound, and stand too deep to be bound
+-- traced nets, the masks of the layout, the names of the nets in the order of their numbers, the names that are bound, each
+-- with its net, and how many labels are bound, are not bound, and stand too deep to be bound
 pub record NamedNets : Type 0 where
   pub nets : Nets
   pub masks : MaskLists
   pub names : List (List ℕ)
+  pub bound_names : List BoundName
   pub bound : ℕ
   pub unbound : ℕ
   pub deep : ℕ
@@ -62,6 +64,7 @@ pub record IsNamed (plan : Plan) (lists : Lists) (named : NamedNets) : Type 0 wh
   pub clear : AreClear (traced_nets plan named.masks) plan lists.marks
   pub nets : AreJoinedAs (labelled_by plan named.masks lists.marks) named.nets
   pub names : AreNames (labelled_by plan named.masks lists.marks) named.names
+  pub bound_names : AreBoundNames (labelled_by plan named.masks lists.marks) named.bound_names
   pub bound : named.bound ≡ count_bound (traced_nets plan named.masks) plan lists.marks
   pub unbound : named.unbound ≡ count_unbound (traced_nets plan named.masks) plan lists.marks
   pub deep : named.deep ≡ count_deep lists.marks

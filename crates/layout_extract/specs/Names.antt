@@ -1,5 +1,5 @@
 -- Nets that are joined by names, and their names.
-use Rattle.std.specs.Prelude.{◌≡◌, ◌⊎◌, ℕ, ◌&&◌, ◌||◌, Bool, true, List, ◌++◌, codes, Some, slice_get}
+use Rattle.std.specs.Prelude.{◌≡◌, ◌⊎◌, ◌↔◌, ℕ, ◌==◌, ◌&&◌, ◌||◌, Bool, true, List, ◌++◌, codes, Some, slice_get}
 use Rattle.std.specs.List.{list_any}
 use Rattle.std.specs.Str.{bytes_eq}
 use Rattle.std.specs.Ordering.{nat_cmp, is_le}
@@ -12,6 +12,7 @@ use Rattle.link_classes.specs.Numbering.{AreRoots, IsNumber, IsCount}
 use Rattle.net_trace.specs.declared.node.Node.{Node}
 use Rattle.net_trace.specs.Touching.{Nets, is_node, touches}
 use Rattle.net_trace.specs.Nets.{node_cmp}
+use Rattle.layout_extract.specs.declared.named.BoundName.{BoundName}
 use Rattle.layout_extract.specs.Labels.{is_bound_at}
 
 -- the nodes and cuts of a layout, its map and its labels
@@ -49,7 +50,7 @@ IsNamedNumber g = IsNumber node_cmp (is_node g.nets) (is_net_link g)
 abbrev pub IsNamedCount : Labelled → ℕ → Type 0
 IsNamedCount g = IsCount node_cmp (is_node g.nets) (is_net_link g)
 
--- ---- the name of a net
+-- ---- the names of a net
 
 -- A label of that name is bound to a node of the net.
 pub record IsBoundName (g : Labelled) (net : ℕ) (name : List ℕ) : Type 0 where
@@ -65,6 +66,14 @@ pub record IsBoundName (g : Labelled) (net : ℕ) (name : List ℕ) : Type 0 whe
 pub record IsLabelledNet (g : Labelled) (net : ℕ) : Type 0 where
   pub name : List ℕ
   pub bound : IsBoundName g net name
+
+-- whether the list has this name with this net
+abbrev pub is_listed_name : List BoundName → ℕ → List ℕ → Bool
+is_listed_name list net name = list_any (λ b. b.net.0 == net && bytes_eq b.name name) list
+
+-- The list has a name with a net exactly where the name is bound to the net.
+pub record AreBoundNames (g : Labelled) (list : List BoundName) : Type 0 where
+  pub exact : (net : ℕ) (name : List ℕ) → is_listed_name list net name ≡ true ↔ IsBoundName g net name
 
 -- Of the names that are bound to the net, it is the first by bytes.
 pub record IsLeastName (g : Labelled) (net : ℕ) (name : List ℕ) : Type 0 where

@@ -20,6 +20,7 @@ use Rattle.layout_extract.specs.declared.bindings.Binding.{Binding}
 use Rattle.layout_extract.specs.declared.bindings.Binding.TheVariants.{Deep, Unbound, Ambiguous, Bound}
 use Rattle.layout_extract.specs.declared.tags.Spot.{Spot}
 use Rattle.layout_extract.specs.declared.tags.Tag.{Tag}
+use Rattle.layout_extract.specs.declared.named.BoundName.{BoundName}
 use Rattle.layout_extract.specs.Names.{is_joining}
 
 -- ---- bindings
@@ -183,9 +184,15 @@ pub record IsNameBy (tags : List Tag) (net : ℕ) (name : List ℕ) : Type 0 whe
   pub least : IsLeast tags (length tags) net first
   pub is : name ≡ name_or net first
 
--- One name for each net, by what is bound at the spots.
-pub record AreNamesAt (spots : List Spot) (nets : Nets) (names : List (List ℕ)) : Type 0 where
+-- It is the tag's name with its net.
+pub record IsKept (t : Tag) (b : BoundName) : Type 0 where
+  pub net : b.net ≡ t.net
+  pub name : b.name ≡ t.name.now
+
+-- One name for each net, by what is bound at the spots, and all names that are bound there.
+pub record AreNamesAt (spots : List Spot) (nets : Nets) (names : List (List ℕ)) (bound : List BoundName) : Type 0 where
   pub tags : List Tag
   pub are : AllZip (IsTagOf nets) spots tags
   pub count : IsNetCount nets (length names)
   pub each : (net : ℕ) (name : List ℕ) → slice_get names net ≡ Some name → IsNameBy tags net name
+  pub kept : AllZip IsKept tags bound

@@ -21,6 +21,6 @@ mod refusal;
 mod tags;
 
 pub use laws::{one_naming, some_layout_masks};
-pub use named::Named;
+pub use named::{BoundName, Named};
 pub use naming::name_nets;
 pub use refusal::LayoutRefusal;

@@ -6,16 +6,38 @@ use plane_geom::Label;
 use std::marker::Model;
 use switch_net::NetId;
 
-/// The nets of a layout, joined by names, the masks of the layout, and the name of each net. Contracts see plain lists, by
-/// `NamedNets`. There is one name for each net.
+/// A net and a name that is bound to it.
+#[derive(Debug, Drop)]
+pub struct BoundName {
+    pub net: NetId,
+    pub name: Label,
+}
+
+/// The name of each net, in the order of their numbers, and all names that are bound to nets, a name as often as labels bind
+/// it, in the order of the labels.
+#[derive(Drop)]
+pub(crate) struct NetNames {
+    pub(crate) names: Vec<Label>,
+    pub(crate) bound: Vec<BoundName>,
+}
+
+/// How many labels are bound, are not bound, and stand too deep to be bound.
+#[derive(Clone, Copy, Debug)]
+pub(crate) struct Tallies {
+    pub(crate) bound: u32,
+    pub(crate) unbound: u32,
+    pub(crate) deep: u32,
+}
+
+/// The nets of a layout, joined by names, the masks of the layout, the name of each net and all its bound names. Contracts
+/// see plain lists, by `NamedNets`. There is one name for each net.
 #[derive(Debug, Drop)]
 pub struct Named {
     traced: Traced,
     masks: Masks,
     names: Vec<Label>,
-    bound: u32,
-    unbound: u32,
-    deep: u32,
+    bound_names: Vec<BoundName>,
+    tallies: Tallies,
 }
 
 impl Model for Named {
@@ -25,7 +47,7 @@ impl Model for Named {
 
     ghost Value = { NamedNets };
 
-    ghost view = { λ n. record { nets = n.traced; masks = n.masks; names = n.names.items; bound = n.bound; unbound = n.unbound; deep = n.deep } };
+    ghost view = { λ n. record { nets = n.traced; masks = n.masks; names = n.names.items; bound_names = n.bound_names.items; bound = n.tallies.bound; unbound = n.tallies.unbound; deep = n.tallies.deep } };
 
     ghost invariant = { λ n. IsNetCount n.traced (length n.names.items) };
 }
@@ -34,26 +56,17 @@ impl Named {
     ghost use Rattle.std.specs.Prelude.{◌≡◌, ◌<◌, length, Some, slice_get};
     ghost use Rattle.net_trace.specs.Nets.{IsNetCount};
 
-    /// The nets with these names, in the order of their numbers, and so many labels that are bound, that are not bound, and
-    /// that stand too deep.
-    pub(crate) fn new(
-        traced: Traced,
-        masks: Masks,
-        names: Vec<Label>,
-        bound: u32,
-        unbound: u32,
-        deep: u32,
-    ) -> Named
-        requires { IsNetCount traced (length names.items) }
-        ensures { result ≡ record { nets = traced; masks = masks; names = names.items; bound = bound; unbound = unbound; deep = deep } }
+    /// The nets with these names and numbers of labels.
+    pub(crate) fn new(traced: Traced, masks: Masks, names: NetNames, tallies: Tallies) -> Named
+        requires { IsNetCount traced (length names.names.items) }
+        ensures { result ≡ record { nets = traced; masks = masks; names = names.names.items; bound_names = names.bound.items; bound = tallies.bound; unbound = tallies.unbound; deep = tallies.deep } }
     {
         Named {
             traced,
             masks,
-            names,
-            bound,
-            unbound,
-            deep,
+            names: names.names,
+            bound_names: names.bound,
+            tallies,
         }
     }
 
@@ -89,10 +102,22 @@ impl Named {
         self.names.as_slice()
     }
 
+    /// The names that are bound to nets, each with its net.
+    pub fn bound_names(&self) -> &[BoundName]
+        ensures { result.now ≡ self.now.bound_names }
+    {
+        self.bound_names.as_slice()
+    }
+
     /// How many labels are bound, are not bound, and stand too deep to be bound.
     pub fn tallies(&self) -> (u32, u32, u32)
         ensures { result ≡ (self.now.bound, self.now.unbound, self.now.deep) }
     {
-        (self.bound, self.unbound, self.deep)
+        let Tallies {
+            bound,
+            unbound,
+            deep,
+        } = self.tallies;
+        (bound, unbound, deep)
     }
 }

@@ -1,8 +1,10 @@
 //! The names of nets.
 
 ghost use Rattle.std.specs.Prelude.{◌≡◌, ℕ, ◌<◌, List, Some, IfOk, All, length, slice_get, slice_index_or, option_copied, None};
-ghost use Rattle.layout_extract.specs.Tags.{lesser_name, HasNode, IsLeast, IsNameBy, AreNamesAt, name_or};
+ghost use Rattle.std.specs.List.{AllZip};
+ghost use Rattle.layout_extract.specs.Tags.{lesser_name, HasNode, IsLeast, IsNameBy, IsKept, AreNamesAt, name_or};
 
+use crate::named::{BoundName, NetNames};
 use crate::tags::{Spot, Tag, tags};
 use itoa::Buffer;
 use net_trace::Traced;
@@ -65,15 +67,29 @@ fn named(alloc: Global, tags: &[Tag<'_>], count: usize) -> Result<Vec<Label>, Al
     Ok(names)
 }
 
+/// The names of the tags, each with its net.
+fn kept(alloc: Global, tags: &[Tag<'_>]) -> Result<Vec<BoundName>, AllocError>
+    ensures { IfOk result (λ v. AllZip IsKept tags.now v.items) }
+{
+    let mut kept = Vec::new(alloc);
+    for tag in tags {
+        let name = Label::new(alloc, tag.name.as_bytes())?;
+        kept.push(BoundName { net: tag.net, name })?;
+    }
+    Ok(kept)
+}
+
 /// The names of the nets, by what is bound at these spots.
 pub(crate) fn net_names(
     alloc: Global,
     traced: &Traced,
     spots: &[Spot<'_>],
-) -> Result<Vec<Label>, AllocError>
+) -> Result<NetNames, AllocError>
     requires { All (HasNode traced.now) spots.now }
-    ensures { IfOk result (λ v. AreNamesAt spots.now traced.now v.items) }
+    ensures { IfOk result (λ n. AreNamesAt spots.now traced.now n.names.items n.bound.items) }
 {
     let tags = tags(alloc, traced, spots)?;
-    named(alloc, tags.as_slice(), traced.count() as usize)
+    let names = named(alloc, tags.as_slice(), traced.count() as usize)?;
+    let bound = kept(alloc, tags.as_slice())?;
+    Ok(NetNames { names, bound })
 }

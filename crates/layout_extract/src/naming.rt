@@ -6,7 +6,7 @@ ghost use Rattle.layout_extract.specs.Layouts.{IsNamed, RefusesNaming, IsNamedFr
 
 use crate::bindings::bindings;
 use crate::joins::join;
-use crate::named::Named;
+use crate::named::{Named, Tallies};
 use crate::names::net_names;
 use crate::refusal::LayoutRefusal;
 use crate::tags::{count_bound, count_deep, count_unbound, first_ambiguous, spots};
@@ -40,10 +40,12 @@ pub(crate) fn name_layout(
     let spots = spots.as_slice();
     let joined = join(alloc, map, traced, spots)?;
     let names = net_names(alloc, &joined, spots)?;
-    let bound = count_bound(bindings) as u32;
-    let unbound = count_unbound(bindings) as u32;
-    let deep = count_deep(bindings) as u32;
-    Ok(Named::new(joined, masks, names, bound, unbound, deep))
+    let tallies = Tallies {
+        bound: count_bound(bindings) as u32,
+        unbound: count_unbound(bindings) as u32,
+        deep: count_deep(bindings) as u32,
+    };
+    Ok(Named::new(joined, masks, names, tallies))
 }
 
 /// The named nets of a file, as the definition `IsNamedFrom` says. The file is refused as `RefusesLayout` says: where it

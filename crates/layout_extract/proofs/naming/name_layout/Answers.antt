@@ -36,21 +36,21 @@ join-requires c = (have_nodes c.in_ok-traced.traced c.args.map.now c.marks-marks
 pub net_names-requires : goal.net_names-requires
 net_names-requires c = λ k d lt. same_nodes c.in_ok-traced.traced c.in_ok-joined.joined c.in_ok-joined.ensures.by.wires (spot_node (get_or c.as_slice-spots.result.now k d)) ∙ (have_nodes c.in_ok-traced.traced c.args.map.now c.marks-marks.result.now c.as_slice-bindings.result.now (subst (λ bs. AllZip (IsBinding c.in_ok-traced.traced c.args.map.now) c.marks-marks.result.now bs) (sym c.as_slice-bindings.ensures.value) c.in_ok-bindings.ensures) c.as_slice-spots.result.now (subst (λ ss. AreSpotsOf c.marks-marks.result.now c.as_slice-bindings.result.now (length c.marks-marks.result.now) ss) (sym c.as_slice-spots.ensures.value) c.in_ok-spots.ensures)) k d lt
 
-pub overflow_cast-bound : goal.overflow_cast-bound
-overflow_cast-bound c = let lt = cast_fits is_bound c.as_slice-bindings.result.now c.args.flat.now.marks (2 ^ 32) c.count_bound-bound.result c.count_bound-bound.ensures (sym (sym (AllZip-long (IsBinding c.in_ok-traced.traced c.args.map.now) c.marks-marks.result.now c.as_slice-bindings.result.now (subst (λ bs. AllZip (IsBinding c.in_ok-traced.traced c.args.map.now) c.marks-marks.result.now bs) (sym c.as_slice-bindings.ensures.value) c.in_ok-bindings.ensures))) ∙ (ap (λ ms. length ms) c.marks-marks.ensures.same)) c.requires in omega (arith, lt)
+pub overflow_cast-tallies : goal.overflow_cast-tallies
+overflow_cast-tallies c = let lt = cast_fits is_bound c.as_slice-bindings.result.now c.args.flat.now.marks (2 ^ 32) c.count_bound.result c.count_bound.ensures (sym (sym (AllZip-long (IsBinding c.in_ok-traced.traced c.args.map.now) c.marks-marks.result.now c.as_slice-bindings.result.now (subst (λ bs. AllZip (IsBinding c.in_ok-traced.traced c.args.map.now) c.marks-marks.result.now bs) (sym c.as_slice-bindings.ensures.value) c.in_ok-bindings.ensures))) ∙ (ap (λ ms. length ms) c.marks-marks.ensures.same)) c.requires in omega (arith, lt)
 
-pub overflow_cast-unbound : goal.overflow_cast-unbound
-overflow_cast-unbound c = let lt = cast_fits is_unbound c.as_slice-bindings.result.now c.args.flat.now.marks (2 ^ 32) c.count_unbound-unbound.result c.count_unbound-unbound.ensures (sym (sym (AllZip-long (IsBinding c.in_ok-traced.traced c.args.map.now) c.marks-marks.result.now c.as_slice-bindings.result.now (subst (λ bs. AllZip (IsBinding c.in_ok-traced.traced c.args.map.now) c.marks-marks.result.now bs) (sym c.as_slice-bindings.ensures.value) c.in_ok-bindings.ensures))) ∙ (ap (λ ms. length ms) c.marks-marks.ensures.same)) c.requires in omega (arith, lt)
+pub overflow_cast-tallies-2 : goal.overflow_cast-tallies-2
+overflow_cast-tallies-2 c = let lt = cast_fits is_unbound c.as_slice-bindings.result.now c.args.flat.now.marks (2 ^ 32) c.count_unbound.result c.count_unbound.ensures (sym (sym (AllZip-long (IsBinding c.in_ok-traced.traced c.args.map.now) c.marks-marks.result.now c.as_slice-bindings.result.now (subst (λ bs. AllZip (IsBinding c.in_ok-traced.traced c.args.map.now) c.marks-marks.result.now bs) (sym c.as_slice-bindings.ensures.value) c.in_ok-bindings.ensures))) ∙ (ap (λ ms. length ms) c.marks-marks.ensures.same)) c.requires in omega (arith, lt)
 
-pub overflow_cast-deep : goal.overflow_cast-deep
-overflow_cast-deep c = let lt = cast_fits is_deep c.as_slice-bindings.result.now c.args.flat.now.marks (2 ^ 32) c.count_deep-deep.result c.count_deep-deep.ensures (sym (sym (AllZip-long (IsBinding c.in_ok-traced.traced c.args.map.now) c.marks-marks.result.now c.as_slice-bindings.result.now (subst (λ bs. AllZip (IsBinding c.in_ok-traced.traced c.args.map.now) c.marks-marks.result.now bs) (sym c.as_slice-bindings.ensures.value) c.in_ok-bindings.ensures))) ∙ (ap (λ ms. length ms) c.marks-marks.ensures.same)) c.requires in omega (arith, lt)
+pub overflow_cast-tallies-3 : goal.overflow_cast-tallies-3
+overflow_cast-tallies-3 c = let lt = cast_fits is_deep c.as_slice-bindings.result.now c.args.flat.now.marks (2 ^ 32) c.count_deep.result c.count_deep.ensures (sym (sym (AllZip-long (IsBinding c.in_ok-traced.traced c.args.map.now) c.marks-marks.result.now c.as_slice-bindings.result.now (subst (λ bs. AllZip (IsBinding c.in_ok-traced.traced c.args.map.now) c.marks-marks.result.now bs) (sym c.as_slice-bindings.ensures.value) c.in_ok-bindings.ensures))) ∙ (ap (λ ms. length ms) c.marks-marks.ensures.same)) c.requires in omega (arith, lt)
 
 pub returns-clause-named : goal.returns-clause-named
 returns-clause-named c =
     subst (λ n. IsNamed c.args.map.now c.args.flat.now n) (sym c.new.ensures)
     (is_named c.args.map.now c.args.flat.now c.in_ok-masks.masks (record { wires = c.in_ok-masks.ensures.wires; cuts = c.in_ok-masks.ensures.cuts; channels = c.in_ok-masks.ensures.channels })
     c.in_ok-traced.traced c.marks-marks.result.now c.as_slice-bindings.result.now c.as_slice-spots.result.now
-    (record { nets = c.in_ok-joined.joined; masks = c.in_ok-masks.masks; names = c.in_ok-names.names.items; bound = c.count_bound-bound.result; unbound = c.count_unbound-unbound.result; deep = c.count_deep-deep.result })
+    (record { nets = c.in_ok-joined.joined; masks = c.in_ok-masks.masks; names = c.in_ok-names.names.names.items; bound_names = c.in_ok-names.names.bound.items; bound = c.count_bound.result; unbound = c.count_unbound.result; deep = c.count_deep.result })
     c.in_ok-traced.ensures.traced c.marks-marks.ensures.same
     (record {
       steps = (record { few = c.in_ok-traced.ensures.few; zip = (subst (λ bs. AllZip (IsBinding c.in_ok-traced.traced c.args.map.now) c.marks-marks.result.now bs) (sym c.as_slice-bindings.ensures.value) c.in_ok-bindings.ensures) });
@@ -59,7 +59,7 @@ returns-clause-named c =
       joined = c.in_ok-joined.ensures;
       names = c.in_ok-names.ensures;
       masks_is = refl;
-      bound = c.count_bound-bound.ensures;
-      unbound = c.count_unbound-unbound.ensures;
-      deep = c.count_deep-deep.ensures;
+      bound = c.count_bound.ensures;
+      unbound = c.count_unbound.ensures;
+      deep = c.count_deep.ensures;
     }))

@@ -1,1 +1,2 @@
 pub mod CommandsExact
+pub mod Worked

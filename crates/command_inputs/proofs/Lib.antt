@@ -1,3 +1,4 @@
 pub mod WordLemmas
 pub mod SideLemmas
 pub mod StageLemmas
+pub mod Worked

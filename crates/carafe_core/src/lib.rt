@@ -23,5 +23,3 @@ pub use command_base::{Stream, Which};
 pub use command_refusals::{Refusal, Status, WordRefusal};
 pub use laws::one_answer;
 
-#[cfg(test)]
-mod tests;

@@ -99,7 +99,7 @@ def main():
     found = sorted(placements(first, second, side))
     assert len(found) == COUNT, f"{len(found)} placements"
     lefts, bottoms = [x for x, _ in found], [y for _, y in found]
-    drawing = Drawing(first[0] - 3, min(bottoms) - 2, second[2] + 3, max(bottoms) + side + 2, 66)
+    drawing = Drawing(first[0] - 3, min(bottoms) - 2, second[2] + 3, max(bottoms) + side + 2, 86)
     for name, box in (("Vdd", first), ("GND", second)):
         drawing.rectangle("box", *box)
         x, y = drawing.at((box[0] + box[2]) / 2, (box[1] + box[3]) / 2)
@@ -110,9 +110,13 @@ def main():
     drawing.rectangle("defect", x, y, x + side, y + side)
     for x, y in found:
         drawing.dot("placement", x, y)
-    drawing.words(f"A square defect of {side} cells a side, in the first, the middle and the last placement that touches both.", 14,
-                  drawing.height + 26, "start")
-    drawing.words(f"Each dot is the lower left cell of such a placement: there are {COUNT}.", 14, drawing.height + 50, "start")
+    words = (
+        f"Two boxes of metal, and a square defect of {side} cells a side.",
+        f"It touches both boxes in {COUNT} places. Three of them are drawn.",
+        "Each dot is the lower left cell of the square in one of them.",
+    )
+    for line, text in enumerate(words):
+        drawing.words(text, 14, drawing.height + 26 + 22 * line, "start")
     (DOCS / "two_boxes.svg").write_text(drawing.text())
     print(f"{len(found)} placements, x {min(lefts)} to {max(lefts)}, y {min(bottoms)} to {max(bottoms)}")
 

@@ -80,7 +80,8 @@ class Drawing:
 
     def rectangle(self, kind, left, bottom, right, top):
         x, y = self.at(left, top)
-        self.lines.append(f'<rect class="{kind}" x="{x}" y="{y}" width="{(right - left) * PIXELS}" height="{(top - bottom) * PIXELS}"/>')
+        width, height = (right - left) * PIXELS, (top - bottom) * PIXELS
+        self.lines.append(f'<rect class="{kind}" x="{x}" y="{y}" width="{width}" height="{height}"/>')
 
     def dot(self, kind, x, y):
         x, y = self.at(x + 0.5, y + 0.5)

@@ -22,4 +22,3 @@ pub use answer::carafe;
 pub use command_base::{Stream, Which};
 pub use command_refusals::{Refusal, Status, WordRefusal};
 pub use laws::one_answer;
-

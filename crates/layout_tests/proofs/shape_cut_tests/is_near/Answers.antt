@@ -1,6 +1,6 @@
 use Rattle.std.proofs.Common.{◌≡◌, Bool, true, false, not, rules, refl, w64, FitsSigned}
 use Rattle.std.proofs.lemmas.Int.{to_z-of_z}
-use Rattle.mask_tests.proofs.shape_cut_tests.is_near.Goals as goal
+use Rattle.layout_tests.proofs.shape_cut_tests.is_near.Goals as goal
 
 is_not : (b : Bool) → not b ≡ true → b ≡ false
 is_not true h = cc

@@ -3,7 +3,7 @@ use Rattle.std.specs.Prelude.{pos}
 use Rattle.std.proofs.lemmas.Int.{ints}
 use Rattle.mask_region.specs.declared.strips.Strip.{Strip}
 use Rattle.mask_region.specs.Strips.{Banded, IsStrip}
-use Rattle.mask_tests.proofs.mask_region_tests.is_built_strip_by_strip.Goals as goal
+use Rattle.layout_tests.proofs.mask_region_tests.is_built_strip_by_strip.Goals as goal
 
 abbrev one : Strip
 one = record { y0 = pos 0; y1 = pos 3; x0 = pos 0; x1 = pos 4 }

@@ -2,7 +2,7 @@ use Rattle.std.proofs.Common.{◌^◌, rules}
 use Rattle.plane_geom.specs.Bounds.{IsRectWithin}
 use Rattle.plane_geom.specs.Covering.{figure_of}
 use Rattle.shape_cut.proofs.Hulls.{reach_near}
-use Rattle.mask_tests.proofs.shape_cut_tests.pieces.Goals as goal
+use Rattle.layout_tests.proofs.shape_cut_tests.pieces.Goals as goal
 
 pub cut-requires-clause-within : goal.cut-requires-clause-within
 cut-requires-clause-within c r reach =

@@ -1,6 +1,6 @@
 use Rattle.std.proofs.Common.{◌^◌, ◌∙◌, sym}
 use Rattle.mask_region.proofs.Within.{within-rects, rects_wider}
-use Rattle.mask_tests.proofs.mask_region_tests.region.Goals as goal
+use Rattle.layout_tests.proofs.mask_region_tests.region.Goals as goal
 
 pub of_rects-requires : goal.of_rects-requires
 of_rects-requires c = rw c.as_slice.ensures.value (rects_wider _ c.in_ok-rects.ensures)

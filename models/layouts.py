@@ -125,7 +125,7 @@ class Layout:
         return position
 
     def draw_items(self, items, count, scale, callees, layer):
-        """Adds items to the list, on this layer at first. The answer is the layer that is current behind them."""
+        """Adds items to the list, on this layer at first. The answer is the layer that is current after them."""
         for _ in range(count):
             if layer is None or self.chance.random() < 0.15:
                 layer = self.chance.choice(LAYERS + [UNKNOWN_LAYER])

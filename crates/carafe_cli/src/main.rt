@@ -32,7 +32,7 @@ fn main(rt: HostRuntime) -> ExitCode {
     ExitCode::from(status.exit_number())
 }
 
-/// The words behind the program's name; none where an argument is no text. It fails only where no memory is found.
+/// The words after the program's name, or none where an argument is no text. It fails only where no memory is found.
 fn read_arguments(alloc: Global, arguments: io::Result<Args>) -> Result<Vec<Name>, AllocError>
     ensures words { IfOk arguments (λ args. IfOk result (λ words. words.items ≡ drop 1 (map string_bytes (into_iter_items args)))) }
     ensures none { IfErr arguments (λ error. (error_kind error ≡ ErrorKind.OutOfMemory → ⊥) → IsOkAnd result (λ words. words.items ≡ [])) }

@@ -164,8 +164,8 @@ may_be_untold DoneNo = false
 may_be_untold (IsRefusedFor refusal) = false
 may_be_untold _ = true
 
--- No call on a strict device fails unknown: the status tells of a failed start, of a failed read, and of a failed write of the
--- report, and where no line was owed, or it was told, no write of one failed.
+-- No failed call on a strict device goes unreported: the status tells of a failed start, of a failed read, and of a failed
+-- write of the report, and where no line was owed, or that of a refusal was told, no write of one failed.
 pub record TellsFaults {R : Type 0} (before after : Desk) (diag diag' : SinkState) (status : AnyStatus R) : Type 0 where
   pub starts : is_open_fault status ≡ false → IsQuiet before.shelf.strict before.shelf.start_faults after.shelf.start_faults
   pub reads : is_read_fault status ≡ false → IsQuiet before.shelf.strict before.shelf.read_faults after.shelf.read_faults

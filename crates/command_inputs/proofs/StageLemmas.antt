@@ -41,7 +41,7 @@ pub one_layout : (cif : List ℕ) (files : List File) (f g : Contents) → (cif_
 one_layout cif files f g here there =
     one_contents there.value f g (subst (λ bytes. AcceptsCif bytes f) (one_file files cif here.value there.value here.given there.given) here.holds) there.holds
 
--- a refusal that is carried is no want of memory
+-- a refusal that is carried is not that of running out of memory
 carried_some : (l : LayoutRefusal) (r : Refusal) → layout_carried l ≡ Some r → l ≡ NoMemory → ⊥
 carried_some l r is same = let none : layout_carried NoMemory ≡ Some r = ap layout_carried (sym same) ∙ is in cc
 

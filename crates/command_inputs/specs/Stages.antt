@@ -1,5 +1,5 @@
--- The inputs of commands as stages: words that spell sides and budgets, the layer map, the layout with its named nets, and the formula. Which file has which
--- bytes is said here alone.
+-- The inputs of commands as stages: words that spell sides and budgets, the layer map, the layout with its named nets, and
+-- the formula. Which file has which bytes is said here alone.
 use Rattle.std.specs.Prelude.{ℕ, List}
 use Rattle.layer_map.specs.declared.refusal.MapRefusal.TheVariants.{MapTooLong}
 use Rattle.layer_map.specs.Plan.{Plan}

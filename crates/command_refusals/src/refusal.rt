@@ -27,7 +27,7 @@ pub enum WordRefusal {
 /// Why an input is refused. The crate that declares a variant's own refusal defines when it comes.
 #[derive(Debug, Clone, Copy, PartialEq, Eq)]
 pub enum Refusal {
-    /// The words are no command.
+    /// The words are refused.
     Words(WordRefusal),
     /// The map's text is refused.
     Map(MapRefusal),

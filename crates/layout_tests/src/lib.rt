@@ -1,4 +1,4 @@
-//! The tests of the crates that read layouts and layer maps, unfold calls and name nets.
+//! The tests of the crates that read layouts and layer maps, unfold calls, make masks of shapes, name nets and sweep defects.
 //!
 //! Each module tests the crate of its name. A test calls public items alone, on rows whose answers come from outside. The
 //! tests stand apart from the crates, since the tests of a crate are checked together with all of its proofs.
@@ -11,8 +11,20 @@ mod cif_grammar_tests;
 #[cfg(test)]
 mod cif_reader_tests;
 #[cfg(test)]
+mod defect_sweep_tests;
+#[cfg(test)]
 mod fixtures;
 #[cfg(test)]
 mod layer_map_tests;
 #[cfg(test)]
 mod layout_extract_tests;
+#[cfg(test)]
+mod link_classes_tests;
+#[cfg(test)]
+mod mask_algebra_tests;
+#[cfg(test)]
+mod mask_region_tests;
+#[cfg(test)]
+mod plane_geom_tests;
+#[cfg(test)]
+mod shape_cut_tests;

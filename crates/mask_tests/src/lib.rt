@@ -1,4 +1,5 @@
-//! The tests of the crates that place and cut shapes, make masks of them, join what touches and sweep defects.
+//! The tests of the crates that place and cut shapes, make masks of them, join what touches, sweep defects and follow the
+//! paths of a circuit.
 //!
 //! Each module tests the crate of its name. A test calls public items alone, on rows whose answers come from outside. The
 //! tests stand apart from the crates, since the tests of a crate are checked together with all of its proofs.
@@ -16,3 +17,5 @@ mod mask_region_tests;
 mod plane_geom_tests;
 #[cfg(test)]
 mod shape_cut_tests;
+#[cfg(test)]
+mod switch_net_tests;

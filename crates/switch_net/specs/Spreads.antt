@@ -3,7 +3,7 @@ use Rattle.std.specs.Prelude.{◌≡◌, ℕ, ◌<◌, Bool, true, false, ◌&&�
 use Rattle.std.specs.List.{All, count_by}
 use Rattle.link_classes.specs.Linked.{Linked}
 use Rattle.switch_net.specs.declared.fets.Fet.{Fet}
-use Rattle.switch_net.specs.Switches.{Switches, value, is_supply, is_terminal}
+use Rattle.switch_net.specs.Switches.{Switches, net_count, value, is_supply, is_terminal}
 use Rattle.switch_net.specs.Conduction.{IsSame, is_conducting, is_joined}
 
 -- how many nets are not marked
@@ -39,6 +39,12 @@ pub record IsSpread (c : Switches) (v : ℕ → Bool) (fets : List Fet) (old new
   pub linked : (n : ℕ) → value new n ≡ true → (m : ℕ) × (value old m ≡ true) × Linked (is_joined c c.fets v) m n
   pub less : grown ≡ true → room new < room old
   pub idle : grown ≡ false → (new ≡ old) × All (IsEven c v old) fets
+
+-- The start is marked, and each mark is linked to it.
+pub record IsFlooding (c : Switches) (v : ℕ → Bool) (start : ℕ) (marks : List Bool) : Type 0 where
+  pub each : length marks ≡ net_count c
+  pub first : value marks start ≡ true
+  pub linked : (n : ℕ) → value marks n ≡ true → Linked (is_joined c c.fets v) start n
 
 -- Exactly the nets that a chain of joined nets leads to from the start are marked.
 pub record IsFlooded (c : Switches) (v : ℕ → Bool) (start : ℕ) (marks : List Bool) : Type 0 where

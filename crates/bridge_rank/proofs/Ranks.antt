@@ -13,7 +13,7 @@ use Rattle.std.proofs.lemmas.List.Sorted.{All-permutation}
 use Rattle.mask_region.specs.declared.strips.Strip.{Strip}
 use Rattle.net_trace.specs.Touching.{Nets}
 use Rattle.defect_sweep.specs.declared.sides.SideWeight.{SideWeight}
-use Rattle.defect_sweep.specs.declared.pairs.Pair.{Pair}
+use Rattle.switch_net.specs.Pairs.{NetPair}
 use Rattle.defect_sweep.specs.Counting.{BridgeCount, count_of, count_on, counts_of, pairs_below}
 use Rattle.defect_sweep.specs.Bridges.{AreCounts}
 use Rattle.bridge_rank.specs.Ranking.{rank_order, IsRanked}
@@ -52,7 +52,7 @@ same_count sides wires regions p q own other tie =
 
 all_own : (sides : List SideWeight) (nets wires : ℕ) (regions : List (List Strip)) → All (IsOwn sides wires regions) (counts_of sides nets wires regions)
 all_own sides nets wires regions =
-    let count : Pair → BridgeCount = λ pair. count_of wires pair (count_on sides wires regions pair) in
+    let count : NetPair → BridgeCount = λ pair. count_of wires pair (count_on sides wires regions pair) in
     All-filter (λ c. nat_lt 0 c.total) (IsOwn sides wires regions) (map count (pairs_below nets))
     (All-map (IsOwn sides wires regions) count (pairs_below nets) (λ k d less. refl))
 

@@ -11,7 +11,7 @@ use Rattle.plane_geom.specs.Cells.{is_met}
 use Rattle.layer_map.specs.declared.map.WireId.{WireId}
 use Rattle.mask_region.specs.declared.strips.Strip.{Strip}
 use Rattle.mask_region.specs.Strips.{is_in, AreStripsWithin, AreRegionsWithin}
-use Rattle.defect_sweep.specs.declared.pairs.Pair.{Pair}
+use Rattle.switch_net.specs.Pairs.{NetPair}
 use Rattle.defect_sweep.specs.declared.sides.SideWeight.{SideWeight}
 use Rattle.defect_sweep.specs.Sides.{IsSide, AreSides}
 use Rattle.defect_sweep.specs.Counting.{BridgeCount, placements_on_both, weighted, count_of, count_on, counts_of, pairs_below, region_at}
@@ -41,11 +41,11 @@ near_at regions k within = elim (cases_lt k (length regions)) [
   | inr past ↦ subst (λ r. AreStripsWithin (2 ^ 24) r) (sym (get_or_past regions k [] past)) (record { each = λ j d lt. absurd (omega (arith, lt)) })
 ]
 
-wire_small : (sides : List SideWeight) (wires : ℕ) (regions : List (List Strip)) (pair : Pair) (wire : ℕ) → AreSides sides → AreRegionsWithin (2 ^ 24) regions → count_on sides wires regions pair wire < 2 ^ 59
+wire_small : (sides : List SideWeight) (wires : ℕ) (regions : List (List Strip)) (pair : NetPair) (wire : ℕ) → AreSides sides → AreRegionsWithin (2 ^ 24) regions → count_on sides wires regions pair wire < 2 ^ 59
 wire_small sides wires regions pair wire are within =
     weighted_small sides (region_at wires regions pair.a.0 wire) (region_at wires regions pair.b.0 wire) are (near_at regions (pair.a.0 * wires + wire) within)
 
-fits_pair : (sides : List SideWeight) (wires : ℕ) (regions : List (List Strip)) (pair : Pair) → AreSides sides → wires ≤ 16 → AreRegionsWithin (2 ^ 24) regions
+fits_pair : (sides : List SideWeight) (wires : ℕ) (regions : List (List Strip)) (pair : NetPair) → AreSides sides → wires ≤ 16 → AreRegionsWithin (2 ^ 24) regions
     → IsFitting (count_of wires pair (count_on sides wires regions pair))
 fits_pair sides wires regions pair are few within =
     let on : ℕ → ℕ = count_on sides wires regions pair in
@@ -59,6 +59,6 @@ fits_pair sides wires regions pair are few within =
 
 pub counts_fit : (sides : List SideWeight) (nets wires : ℕ) (regions : List (List Strip)) → AreSides sides → wires ≤ 16 → AreRegionsWithin (2 ^ 24) regions → All IsFitting (counts_of sides nets wires regions)
 counts_fit sides nets wires regions are few within =
-    let count : Pair → BridgeCount = λ pair. count_of wires pair (count_on sides wires regions pair) in
+    let count : NetPair → BridgeCount = λ pair. count_of wires pair (count_on sides wires regions pair) in
     All-filter (λ c. nat_lt 0 c.total) IsFitting (map count (pairs_below nets))
     (All-map IsFitting count (pairs_below nets) (λ k d lt. fits_pair sides wires regions (slice_index_or (pairs_below nets) k d) are few within))

@@ -8,7 +8,7 @@ use Rattle.std.proofs.lemmas.List.Folds.{fold-map}
 use Rattle.std.proofs.lemmas.List.FromFn.{map-range_with_len_more, fill_by_all}
 use Rattle.std.proofs.lemmas.List.Sums.{sum_by-cons}
 use Rattle.std.proofs.lemmas.Grind.{flat_map-append}
-use Rattle.defect_sweep.specs.declared.pairs.Pair.{Pair}
+use Rattle.switch_net.specs.Pairs.{NetPair}
 use Rattle.defect_sweep.specs.Counting.{BridgeCount, count_of, pair_of, pairs_with, pairs_below, listed}
 use Rattle.net_trace.proofs.Lists.{range_more}
 
@@ -41,7 +41,7 @@ all_map P f [] each = tt
 all_map P f (x ∷ xs) each = (each.0, all_map P f xs each.1)
 
 -- Each pair of a list of pairs is one of two nets.
-pub all_pairs : (P : Pair → Type 0) (nets : ℕ) → ((a b : ℕ) → a < b → b < nets → P (pair_of a b)) → AllByRecursion P (pairs_below nets)
+pub all_pairs : (P : NetPair → Type 0) (nets : ℕ) → ((a b : ℕ) → a < b → b < nets → P (pair_of a b)) → AllByRecursion P (pairs_below nets)
 all_pairs P nets each =
     all_flat P (λ a. pairs_with nets a) (range_with_len 0 nets)
     (all_range (λ a. AllByRecursion P (pairs_with nets a)) 0 nets
@@ -49,7 +49,7 @@ all_pairs P nets each =
     (all_range (λ b. P (pair_of a b)) (a + 1) (nets - (a + 1)) (λ b more less. each a b (omega (arith, more)) (omega (arith, less))))))
 
 -- the same counts on each wire
-pub count_agree : (wires : ℕ) (pair : Pair) (f g : ℕ → ℕ) → ((wire : ℕ) → wire < wires → f wire ≡ g wire) → count_of wires pair f ≡ count_of wires pair g
+pub count_agree : (wires : ℕ) (pair : NetPair) (f g : ℕ → ℕ) → ((wire : ℕ) → wire < wires → f wire ≡ g wire) → count_of wires pair f ≡ count_of wires pair g
 count_agree wires pair f g same =
     let all = all_range (λ wire. f wire ≡ g wire) 0 wires (λ wire low high. same wire (omega (arith, high))) in
     let each = all_range (λ wire. (record { 0 = wire }, f wire) ≡ (record { 0 = wire }, g wire)) 0 wires (λ wire low high. ap (λ n. (record { 0 = wire }, n)) (same wire (omega (arith, high)))) in
@@ -58,7 +58,7 @@ count_agree wires pair f g same =
     λ i. record { pair = pair; total = sums i; on = filter (λ c. nat_lt 0 c.1) (lists i) }
 
 -- the same counts of each pair
-pub listed_agree : (nets wires : ℕ) (f g : Pair → ℕ → ℕ) → ((a b wire : ℕ) → a < b → b < nets → wire < wires → f (pair_of a b) wire ≡ g (pair_of a b) wire)
+pub listed_agree : (nets wires : ℕ) (f g : NetPair → ℕ → ℕ) → ((a b wire : ℕ) → a < b → b < nets → wire < wires → f (pair_of a b) wire ≡ g (pair_of a b) wire)
     → listed (map (λ pair. count_of wires pair (f pair)) (pairs_below nets)) ≡ listed (map (λ pair. count_of wires pair (g pair)) (pairs_below nets))
 listed_agree nets wires f g same =
     ap listed
@@ -74,12 +74,12 @@ sum_places f xs d =
 
 -- ---- rows
 
-module _ (count : Pair → BridgeCount) where
+module _ (count : NetPair → BridgeCount) where
   -- the counts above 0 of a net with each of the next k nets
   abbrev pub row : ℕ → ℕ → List BridgeCount
   row a k = listed (map count (map (λ b. pair_of a b) (range_with_len (a + 1) k)))
 
-  listed_more : (xs : List Pair) (pair : Pair) → listed (map count (xs ++ pair ∷ [])) ≡ listed (map count xs) ++ listed (count pair ∷ [])
+  listed_more : (xs : List NetPair) (pair : NetPair) → listed (map count (xs ++ pair ∷ [])) ≡ listed (map count xs) ++ listed (count pair ∷ [])
   listed_more xs pair = ap listed (map-append count xs (pair ∷ [])) ∙ filter-append (λ c. nat_lt 0 c.total) (map count xs) (count pair ∷ [])
 
   pub row_more : (a k b : ℕ) → (a + 1) + k ≡ b → row a (k + 1) ≡ row a k ++ listed (count (pair_of a b) ∷ [])
@@ -107,7 +107,7 @@ module _ (count : Pair → BridgeCount) where
 
   pub rows_more : (nets k : ℕ) → rows nets (k + 1) ≡ rows nets k ++ row k (nets - (k + 1))
   rows_more nets k =
-      let with : ℕ → List Pair = λ a. pairs_with nets a in
+      let with : ℕ → List NetPair = λ a. pairs_with nets a in
       ap (λ xs. listed (map count (flat_map with xs))) (range_more 0 k k (omega arith))
       ∙ ap (λ xs. listed (map count xs)) (flat_map-append with (range_with_len 0 k) (k ∷ []) ∙ ap (λ xs. flat_map with (range_with_len 0 k) ++ xs) (append-nil (with k)))
       ∙ ap listed (map-append count (flat_map with (range_with_len 0 k)) (with k))

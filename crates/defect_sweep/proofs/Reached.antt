@@ -8,7 +8,7 @@ use Rattle.plane_geom.specs.declared.shapes.Rect.{Rect}
 use Rattle.layer_map.specs.declared.map.WireId.{WireId}
 use Rattle.mask_region.specs.declared.strips.Strip.{Strip}
 use Rattle.defect_sweep.specs.declared.sides.SideWeight.{SideWeight}
-use Rattle.defect_sweep.specs.declared.pairs.Pair.{Pair}
+use Rattle.switch_net.specs.Pairs.{NetPair}
 use Rattle.defect_sweep.specs.Counting.{count_of}
 use Rattle.defect_sweep.specs.Reaching.{Holds, HoldsAll, Reach, no_reach, reach_at, placements_at, ArePlacements, AreReachesOf, AreForSides, meets, wire_meets, above_0}
 use Rattle.defect_sweep.proofs.Holding.{wider, strips_none}
@@ -91,7 +91,7 @@ pub wire_counted : (sides : List SideWeight) (first second : List Reach) (wire n
 wire_counted sides first second wire n p q lt_a lt_b ep eq e =
     e ∙ (λ i. meets sides (get_or_read first wire p lt_a ep no_reach i).placements (get_or_read second wire q lt_b eq no_reach i).placements)
 
-pub counted_all : (sides : List SideWeight) (first second : List Reach) (pair : Pair) (k n total : ℕ) (on : List (WireId × ℕ)) → n ≤ k → k ≤ n → AreCounted sides first second k total on
+pub counted_all : (sides : List SideWeight) (first second : List Reach) (pair : NetPair) (k n total : ℕ) (on : List (WireId × ℕ)) → n ≤ k → k ≤ n → AreCounted sides first second k total on
     → record { pair = pair; total = total; on = on } ≡ count_of n pair (wire_meets sides first second)
 counted_all sides first second pair k n total on le ge h =
     let same : k ≡ n = omega (arith, le, ge) in

@@ -5,7 +5,7 @@ use Rattle.plane_geom.specs.Cells.{is_met, count_cells}
 use Rattle.layer_map.specs.declared.map.WireId.{WireId}
 use Rattle.mask_region.specs.declared.strips.Strip.{Strip}
 use Rattle.mask_region.specs.Strips.{is_in}
-use Rattle.defect_sweep.specs.declared.pairs.Pair.{Pair}
+use Rattle.switch_net.specs.Pairs.{NetPair}
 use Rattle.defect_sweep.specs.declared.sides.SideWeight.{SideWeight}
 
 -- ---- two sets of cells
@@ -22,27 +22,27 @@ weighted sides a b = sum_by (λ s. s.weight * placements_on_both s.cells a b) si
 
 -- the count of a pair of nets: on each wire where it is above 0, in the order of the wires, and in all
 pub record BridgeCount : Type 0 where
-  pub pair : Pair
+  pub pair : NetPair
   pub total : ℕ
   pub on : List (WireId × ℕ)
 
 -- the count of a pair, by the numbers on each of so many wires
-abbrev pub count_of : ℕ → Pair → (ℕ → ℕ) → BridgeCount
+abbrev pub count_of : ℕ → NetPair → (ℕ → ℕ) → BridgeCount
 count_of wires pair on = record {
   pair = pair;
   total = sum_by on (range_with_len 0 wires);
   on = filter (λ c. nat_lt 0 c.1) (map (λ wire. (record { 0 = wire }, on wire)) (range_with_len 0 wires));
 }
 
-abbrev pub pair_of : ℕ → ℕ → Pair
+abbrev pub pair_of : ℕ → ℕ → NetPair
 pair_of a b = record { a = record { 0 = a }; b = record { 0 = b } }
 
 -- a net with each of the later nets, of so many nets in all
-abbrev pub pairs_with : ℕ → ℕ → List Pair
+abbrev pub pairs_with : ℕ → ℕ → List NetPair
 pairs_with nets a = map (λ b. pair_of a b) (range_with_len (a + 1) (nets - (a + 1)))
 
 -- all pairs of so many nets in order, each with the smaller number first
-abbrev pub pairs_below : ℕ → List Pair
+abbrev pub pairs_below : ℕ → List NetPair
 pairs_below nets = flat_map (λ a. pairs_with nets a) (range_with_len 0 nets)
 
 -- the pairs with a total above 0
@@ -56,7 +56,7 @@ abbrev pub region_at : ℕ → List (List Strip) → ℕ → ℕ → List Strip
 region_at wires regions net wire = slice_index_or regions (net * wires + wire) []
 
 -- how many placements meet both nets of a pair on a wire
-abbrev pub count_on : List SideWeight → ℕ → List (List Strip) → Pair → ℕ → ℕ
+abbrev pub count_on : List SideWeight → ℕ → List (List Strip) → NetPair → ℕ → ℕ
 count_on sides wires regions pair wire = weighted sides (is_in (region_at wires regions pair.a.0 wire)) (is_in (region_at wires regions pair.b.0 wire))
 
 -- The pairs of nets that some placement meets on a wire, in order, with their counts.

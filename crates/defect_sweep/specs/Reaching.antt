@@ -7,7 +7,7 @@ use Rattle.plane_geom.specs.Cells.{is_in_rect, is_met, count_cells}
 use Rattle.layer_map.specs.declared.map.WireId.{WireId}
 use Rattle.mask_region.specs.declared.strips.Strip.{Strip}
 use Rattle.mask_region.specs.Strips.{is_in, is_in_strip, IsCellWithin}
-use Rattle.defect_sweep.specs.declared.pairs.Pair.{Pair}
+use Rattle.switch_net.specs.Pairs.{NetPair}
 use Rattle.defect_sweep.specs.declared.sides.SideWeight.{SideWeight}
 use Rattle.defect_sweep.specs.Sides.{side_at}
 use Rattle.defect_sweep.specs.Counting.{BridgeCount, count_of, listed, pairs_with, region_at}
@@ -115,7 +115,7 @@ pub record AreSpread (sides : List SideWeight) (wires : ℕ) (regions : List (Li
   pub at : (net : ℕ) → net < length nets → AreReachesOf sides wires (region_at wires regions net) (net_at nets net).on
 
 -- how many placements are among those of both nets on a wire
-abbrev pub pair_meets : List SideWeight → List Reaches → Pair → ℕ → ℕ
+abbrev pub pair_meets : List SideWeight → List Reaches → NetPair → ℕ → ℕ
 pair_meets sides nets pair wire = meets_on sides (net_at nets pair.a.0) (net_at nets pair.b.0) wire
 
 -- Each net reaches placements on each wire, for each side.
@@ -124,7 +124,7 @@ pub record AreForAll (sides : List SideWeight) (wires : ℕ) (nets : List Reache
   pub sided : (net : ℕ) → net < length nets → AreForSides sides (net_at nets net).on
 
 -- the count of a pair, by what its nets reach
-abbrev pub pair_count : List SideWeight → ℕ → List Reaches → Pair → BridgeCount
+abbrev pub pair_count : List SideWeight → ℕ → List Reaches → NetPair → BridgeCount
 pair_count sides wires nets pair = count_of wires pair (pair_meets sides nets pair)
 
 -- the counts above 0 of a net with each later net

@@ -25,7 +25,7 @@ mod sweep;
 
 pub use counting::counts;
 pub use laws::{counts_by_regions, counts_fit, one_counting};
-pub use pairs::{CountList, Pair, PairCount};
+pub use pairs::{CountList, PairCount};
 pub use refusal::SweepRefusal;
 pub use sides::{SideWeight, are_sides};
 pub use sweep::count_regions;

@@ -8,7 +8,7 @@ ghost use Rattle.defect_sweep.specs.Counting.{count_of};
 ghost use Rattle.defect_sweep.specs.Reaching.{AreReachesOf, AreForSides, above_0, meets_on, wire_meets};
 
 use crate::bounds::{are_apart, around, no_bounds};
-use crate::pairs::{Pair, PairCount};
+use crate::pairs::PairCount;
 use crate::reach::WireReach;
 use crate::sides::SideWeight;
 use layer_map::WireId;
@@ -16,6 +16,7 @@ use mask_region::Region;
 use plane_geom::Rect;
 use std::alloc::{AllocError, Global};
 use std::marker::Model;
+use switch_net::Pair;
 
 /// The placements that meet a net, for each wire and side, and a rectangle that holds them all.
 #[derive(Debug, Drop)]

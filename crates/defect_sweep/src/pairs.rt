@@ -5,14 +5,7 @@ ghost use Rattle.std.specs.Prelude.{◌≡◌, ◌<◌, ◌≤◌, ◌^◌, [], 
 use layer_map::WireId;
 use std::alloc::Global;
 use std::marker::Model;
-use switch_net::NetId;
-
-/// Two nets, the one with the smaller number first.
-#[derive(Clone, Copy, Debug, PartialEq, Eq)]
-pub struct Pair {
-    pub a: NetId,
-    pub b: NetId,
-}
+use switch_net::Pair;
 
 /// How many placements meet both nets of a pair: in all, and on each wire. Contracts see it as a `BridgeCount`.
 #[derive(Debug, Drop)]

@@ -7,12 +7,12 @@ ghost use Rattle.defect_sweep.specs.Counting.{counts_of, listed, pair_of as pair
 ghost use Rattle.defect_sweep.specs.Reaching.{AreSpread, AreForAll, row_of};
 
 use crate::net_reach::NetReach;
-use crate::pairs::{CountList, Pair, PairCount};
+use crate::pairs::{CountList, PairCount};
 use crate::refusal::SweepRefusal;
 use crate::sides::SideWeight;
 use mask_region::Region;
 use std::alloc::{AllocError, Global};
-use switch_net::NetId;
+use switch_net::{NetId, Pair};
 
 /// The most pairs of nets that are listed.
 const MOST: usize = 65_536;
@@ -121,14 +121,11 @@ fn push_count(found: &mut Vec<PairCount>, count: PairCount) -> Result<(), SweepR
     }
 }
 
-/// The pair of the nets with these numbers.
+/// The pair of the nets with these numbers, the smaller one first.
 fn pair_of(a: usize, b: usize) -> Pair
-    requires first { a < 2 ^ 32 }
+    requires first { a < b }
     requires second { b < 2 ^ 32 }
     ensures { result ≡ pair_with a b }
 {
-    Pair {
-        a: NetId(a as u32),
-        b: NetId(b as u32),
-    }
+    Pair::in_order(NetId(a as u32), NetId(b as u32))
 }

@@ -28,3 +28,5 @@ mod mask_region_tests;
 mod plane_geom_tests;
 #[cfg(test)]
 mod shape_cut_tests;
+#[cfg(test)]
+mod switch_net_tests;

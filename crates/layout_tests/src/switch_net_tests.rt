@@ -1,0 +1,213 @@
+//! Circuits, which of them are refused, and the drives of their nets.
+
+use std::alloc::Global;
+use std::test::Fail;
+use switch_net::{
+    Circuit, CircuitRefusal, Drive, Fet, Kind, NetId, Pair, Scratch, chosen, gates, terminals,
+};
+
+fn fet(kind: Kind, gate: u32, a: u32, b: u32) -> Fet {
+    Fet {
+        kind,
+        gate: NetId(gate),
+        a: NetId(a),
+        b: NetId(b),
+    }
+}
+
+/// The nets A 0, GND 1, Y 2, Vdd 3.
+fn inverter() -> [Fet; 2] {
+    [fet(Kind::N, 0, 1, 2), fet(Kind::P, 0, 2, 3)]
+}
+
+/// An inverter and a NAND of the nets A 0, B 1, GND 2, Z 3, Y 4, Vdd 5, W 6: Z is between the two n transistors of Y, which
+/// drives W.
+fn seven_nets() -> [Fet; 6] {
+    [
+        fet(Kind::N, 0, 3, 4),
+        fet(Kind::P, 0, 4, 5),
+        fet(Kind::N, 1, 2, 3),
+        fet(Kind::P, 1, 4, 5),
+        fet(Kind::N, 4, 2, 6),
+        fet(Kind::P, 4, 5, 6),
+    ]
+}
+
+fn made(
+    alloc: Global,
+    labelled: &[bool],
+    fets: &[Fet],
+    supplies: (u32, u32),
+    asked: &[NetId],
+) -> Result<Circuit, CircuitRefusal> {
+    Circuit::new(
+        alloc,
+        Vec::from_slice(alloc, labelled)?,
+        Vec::from_slice(alloc, fets)?,
+        NetId(supplies.0),
+        NetId(supplies.1),
+        Vec::from_slice(alloc, asked)?,
+    )
+}
+
+#[test]
+fn a_pair_has_the_smaller_number_first(rt: HostRuntime) -> Result<(), Fail> {
+    let pair = Pair::new(NetId(2), NetId(5)).expect(&rt, "rising");
+    assert_eq!(rt; pair.a(), NetId(2));
+    assert_eq!(rt; pair.b(), NetId(5));
+    assert_eq!(rt; Pair::new(NetId(5), NetId(2)), None);
+    assert_eq!(rt; Pair::new(NetId(5), NetId(5)), None);
+    Ok(())
+}
+
+#[test]
+fn an_inverter_drives_the_opposite_value(rt: HostRuntime) -> Result<(), Fail> {
+    let alloc = rt.alloc();
+    let circuit = made(alloc, &[true; 4], &inverter(), (3, 1), &[]).expect(&rt, "a circuit");
+    let mut scratch = Scratch::new(alloc, 4)?;
+    let rows = [
+        ([false, false, true, true], Drive::High, [false, true]),
+        ([true, false, false, true], Drive::Low, [true, false]),
+    ];
+    for (values, drive, conducting) in rows {
+        assert_eq!(rt; circuit.drive(NetId(2), &values, &mut scratch), drive);
+        assert_eq!(rt;
+            circuit.drive(NetId(0), &values, &mut scratch),
+            Drive::Neither
+        );
+        assert_eq!(rt; circuit.drive(NetId(1), &values, &mut scratch), Drive::Low);
+        assert_eq!(rt; circuit.drive(NetId(3), &values, &mut scratch), Drive::High);
+        for (index, conducts) in conducting.iter().enumerate() {
+            assert_eq!(rt; circuit.conducting(index, &values), *conducts);
+        }
+    }
+    assert_eq!(rt; circuit.inputs(), [NetId(0)].as_slice());
+    Ok(())
+}
+
+#[test]
+fn seven_nets_have_two_inputs(rt: HostRuntime) -> Result<(), Fail> {
+    let alloc = rt.alloc();
+    let labelled = [true, true, true, false, true, true, true];
+    let asked = [NetId(6), NetId(3)];
+    let circuit = made(alloc, &labelled, &seven_nets(), (5, 2), &asked).expect(&rt, "a circuit");
+    assert_eq!(rt; circuit.inputs(), [NetId(0), NetId(1)].as_slice());
+    assert_eq!(rt; circuit.asked(), asked.as_slice());
+    assert_eq!(rt; circuit.fets(), seven_nets().as_slice());
+    assert_eq!(rt; circuit.labelled(), labelled.as_slice());
+    assert_eq!(rt; (circuit.high(), circuit.low()), (NetId(5), NetId(2)));
+    let marks = gates(alloc, 7, circuit.fets())?;
+    assert_eq!(rt;
+        chosen(alloc, marks.as_slice())?.as_slice(),
+        [NetId(0), NetId(1), NetId(4)].as_slice()
+    );
+    let marks = terminals(alloc, 7, circuit.fets())?;
+    assert_eq!(rt;
+        chosen(alloc, marks.as_slice())?.as_slice(),
+        [NetId(2), NetId(3), NetId(4), NetId(5), NetId(6)].as_slice()
+    );
+    Ok(())
+}
+
+#[test]
+fn a_chain_of_transistors_drives_its_end(rt: HostRuntime) -> Result<(), Fail> {
+    let alloc = rt.alloc();
+    let circuit = made(alloc, &[true; 7], &seven_nets(), (5, 2), &[]).expect(&rt, "a circuit");
+    let mut scratch = Scratch::new(alloc, 7)?;
+    let rows = [
+        ([false, false], Drive::High, Drive::Neither),
+        ([false, true], Drive::High, Drive::Low),
+        ([true, false], Drive::High, Drive::High),
+        ([true, true], Drive::Low, Drive::Low),
+    ];
+    for ([a, b], y, z) in rows {
+        let values = [a, b, false, false, !(a && b), true, a && b];
+        assert_eq!(rt;
+            circuit.drive(NetId(4), &values, &mut scratch),
+            y,
+            "Y {a} {b}"
+        );
+        assert_eq!(rt;
+            circuit.drive(NetId(3), &values, &mut scratch),
+            z,
+            "Z {a} {b}"
+        );
+    }
+    Ok(())
+}
+
+#[test]
+fn no_path_goes_through_a_supply(rt: HostRuntime) -> Result<(), Fail> {
+    let alloc = rt.alloc();
+    // from 3 to the low supply 1, and from there on to the high supply 2
+    let fets = [fet(Kind::N, 0, 3, 1), fet(Kind::N, 0, 1, 2)];
+    let circuit = made(alloc, &[true; 4], &fets, (2, 1), &[]).expect(&rt, "a circuit");
+    let mut scratch = Scratch::new(alloc, 4)?;
+    let values = [true, false, true, false];
+    assert_eq!(rt; circuit.drive(NetId(3), &values, &mut scratch), Drive::Low);
+    assert_eq!(rt; circuit.drive(NetId(2), &values, &mut scratch), Drive::High);
+    assert_eq!(rt; circuit.drive(NetId(1), &values, &mut scratch), Drive::Low);
+    Ok(())
+}
+
+#[test]
+fn two_paths_fight(rt: HostRuntime) -> Result<(), Fail> {
+    let alloc = rt.alloc();
+    // the later transistor is nearer to the net that is asked, so that a second pass is wanted
+    let fets = [
+        fet(Kind::N, 0, 5, 2),
+        fet(Kind::N, 0, 4, 5),
+        fet(Kind::N, 0, 3, 4),
+        fet(Kind::N, 0, 3, 1),
+    ];
+    let circuit = made(alloc, &[true; 6], &fets, (2, 1), &[]).expect(&rt, "a circuit");
+    let mut scratch = Scratch::new(alloc, 6)?;
+    let mut values = [true, false, true, false, false, false];
+    assert_eq!(rt; circuit.drive(NetId(3), &values, &mut scratch), Drive::Both);
+    values[0] = false;
+    assert_eq!(rt;
+        circuit.drive(NetId(3), &values, &mut scratch),
+        Drive::Neither
+    );
+    Ok(())
+}
+
+#[test]
+fn floating_gates_come_first_then_inputs_then_nets_asked_for(rt: HostRuntime) -> Result<(), Fail> {
+    let alloc = rt.alloc();
+    // two hundred and fifty-seven inputs from net 3 on, each of which gates a transistor at net 2
+    let mut labelled = Vec::new(alloc);
+    let mut fets = Vec::new(alloc);
+    for net in 0..260u32 {
+        labelled.push(true)?;
+        if net >= 3 {
+            fets.push(fet(Kind::N, net, 0, 2))?;
+        }
+    }
+    let bad = [NetId(2), NetId(5), NetId(0)];
+    let refusal = |labelled: &[bool], fets: &[Fet], asked: &[NetId]| {
+        made(alloc, labelled, fets, (0, 1), asked).err()
+    };
+    let many = fets.as_slice();
+    let few = &many[..256];
+    assert_eq!(rt; refusal(labelled.as_slice(), few, &bad[..1]), None);
+    assert_eq!(rt;
+        refusal(labelled.as_slice(), few, &bad),
+        Some(CircuitRefusal::NotTerminal(1))
+    );
+    assert_eq!(rt;
+        refusal(labelled.as_slice(), few, &[NetId(0), NetId(2)]),
+        Some(CircuitRefusal::NotTerminal(0))
+    );
+    assert_eq!(rt;
+        refusal(labelled.as_slice(), many, &bad),
+        Some(CircuitRefusal::TooManyInputs)
+    );
+    labelled[9] = false;
+    labelled[7] = false;
+    assert_eq!(rt;
+        refusal(labelled.as_slice(), many, &bad),
+        Some(CircuitRefusal::FloatingGate(NetId(7)))
+    );
+    Ok(())
+}

@@ -24,6 +24,6 @@ fn compare(p: &PairCount, q: &PairCount) -> Ordering
     let second = q.pair();
     q.total()
         .cmp(&p.total())
-        .then(first.a.0.cmp(&second.a.0))
-        .then(first.b.0.cmp(&second.b.0))
+        .then(first.a().0.cmp(&second.a().0))
+        .then(first.b().0.cmp(&second.b().0))
 }

@@ -20,16 +20,26 @@ fn inverter() -> [Fet; 2] {
     [fet(Kind::N, 0, 1, 2), fet(Kind::P, 0, 2, 3)]
 }
 
-/// An inverter and a NAND of the nets A 0, B 1, GND 2, Z 3, Y 4, Vdd 5, W 6: Z is between the two n transistors of Y, which
-/// drives W.
-fn seven_nets() -> [Fet; 6] {
+/// Two inverters of the inputs 0 and 1, with the outputs 4 and 6. A transistor that the high supply 3 gates links 4 and 5, and
+/// the low supply is 2.
+fn seven_nets() -> [Fet; 5] {
     [
-        fet(Kind::N, 0, 3, 4),
-        fet(Kind::P, 0, 4, 5),
-        fet(Kind::N, 1, 2, 3),
-        fet(Kind::P, 1, 4, 5),
-        fet(Kind::N, 4, 2, 6),
-        fet(Kind::P, 4, 5, 6),
+        fet(Kind::N, 0, 2, 4),
+        fet(Kind::P, 0, 3, 4),
+        fet(Kind::N, 3, 4, 5),
+        fet(Kind::N, 1, 2, 6),
+        fet(Kind::P, 1, 3, 6),
+    ]
+}
+
+/// A NAND of the inputs 0 and 1, with the output 4. Net 5 is between its two n transistors, the low supply is 2 and the high
+/// one 3.
+fn nand() -> [Fet; 4] {
+    [
+        fet(Kind::N, 0, 5, 4),
+        fet(Kind::P, 0, 4, 3),
+        fet(Kind::N, 1, 2, 5),
+        fet(Kind::P, 1, 4, 3),
     ]
 }
 
@@ -88,18 +98,22 @@ fn an_inverter_drives_the_opposite_value(rt: HostRuntime) -> Result<(), Fail> {
 #[test]
 fn seven_nets_have_two_inputs(rt: HostRuntime) -> Result<(), Fail> {
     let alloc = rt.alloc();
-    let labelled = [true, true, true, false, true, true, true];
-    let asked = [NetId(6), NetId(3)];
-    let circuit = made(alloc, &labelled, &seven_nets(), (5, 2), &asked).expect(&rt, "a circuit");
+    let labelled = [true; 7];
+    let asked = [NetId(6), NetId(5)];
+    let circuit = made(alloc, &labelled, &seven_nets(), (3, 2), &asked).expect(&rt, "a circuit");
     assert_eq!(rt; circuit.inputs(), [NetId(0), NetId(1)].as_slice());
     assert_eq!(rt; circuit.asked(), asked.as_slice());
     assert_eq!(rt; circuit.fets(), seven_nets().as_slice());
     assert_eq!(rt; circuit.labelled(), labelled.as_slice());
-    assert_eq!(rt; (circuit.high(), circuit.low()), (NetId(5), NetId(2)));
+    assert_eq!(rt; (circuit.high(), circuit.low()), (NetId(3), NetId(2)));
+    let supplies = [false, false, true, true, false, false, false];
+    for (net, is_supply) in supplies.iter().enumerate() {
+        assert_eq!(rt; circuit.is_supply(NetId(net as u32)), *is_supply, "{net}");
+    }
     let marks = gates(alloc, 7, circuit.fets())?;
     assert_eq!(rt;
         chosen(alloc, marks.as_slice())?.as_slice(),
-        [NetId(0), NetId(1), NetId(4)].as_slice()
+        [NetId(0), NetId(1), NetId(3)].as_slice()
     );
     let marks = terminals(alloc, 7, circuit.fets())?;
     assert_eq!(rt;
@@ -112,25 +126,25 @@ fn seven_nets_have_two_inputs(rt: HostRuntime) -> Result<(), Fail> {
 #[test]
 fn a_chain_of_transistors_drives_its_end(rt: HostRuntime) -> Result<(), Fail> {
     let alloc = rt.alloc();
-    let circuit = made(alloc, &[true; 7], &seven_nets(), (5, 2), &[]).expect(&rt, "a circuit");
-    let mut scratch = Scratch::new(alloc, 7)?;
+    let circuit = made(alloc, &[true; 6], &nand(), (3, 2), &[]).expect(&rt, "a circuit");
+    let mut scratch = Scratch::new(alloc, 6)?;
     let rows = [
         ([false, false], Drive::High, Drive::Neither),
         ([false, true], Drive::High, Drive::Low),
         ([true, false], Drive::High, Drive::High),
         ([true, true], Drive::Low, Drive::Low),
     ];
-    for ([a, b], y, z) in rows {
-        let values = [a, b, false, false, !(a && b), true, a && b];
+    for ([a, b], output, between) in rows {
+        let values = [a, b, false, true, !(a && b), false];
         assert_eq!(rt;
             circuit.drive(NetId(4), &values, &mut scratch),
-            y,
-            "Y {a} {b}"
+            output,
+            "{a} {b}"
         );
         assert_eq!(rt;
-            circuit.drive(NetId(3), &values, &mut scratch),
-            z,
-            "Z {a} {b}"
+            circuit.drive(NetId(5), &values, &mut scratch),
+            between,
+            "{a} {b}"
         );
     }
     Ok(())

@@ -1,5 +1,5 @@
 -- Worked instances of the definitions: values that are computed, circuits that are kept or refused, paths and drives.
-use Rattle.std.proofs.Common.{arith, ◌≡◌, ℕ, zero, suc, ◌<◌, inl, inr, Bool, true, false, List, [], ◌∷◌, filter, slice_get, Some, None, refl, sym, ap, subst}
+use Rattle.std.proofs.Common.{arith, ◌≡◌, ℕ, zero, suc, ◌<◌, Bool, true, false, List, [], ◌∷◌, filter, slice_get, Some, None, refl, subst}
 use Rattle.std.specs.List.{All, range_with_len}
 use Rattle.std.proofs.lemmas.Bool.{true≢false, agree_below_at}
 use Rattle.link_classes.proofs.UniqueNumbers.{some_one, no_some}
@@ -10,8 +10,8 @@ use Rattle.switch_net.specs.declared.fets.Fet.{Fet}
 use Rattle.switch_net.specs.declared.drives.Drive.TheVariants.{High, Low}
 use Rattle.switch_net.specs.Switches.{Switches, switches, value, is_supply, gates_some, joins_some}
 use Rattle.switch_net.specs.Inputs.{is_floating_gate, inputs_of}
-use Rattle.switch_net.specs.Conduction.{is_conducting, is_step, is_move, IsWay, HasPath, IsDriveOf}
-use Rattle.switch_net.specs.Refusals.{IsFetBelow, AreParts, IsNone, AreTerminals, is_askable, IsCircuit, IsFloating, IsMisnamed}
+use Rattle.switch_net.specs.Conduction.{is_conducting, is_move, IsWay, HasPath, IsDriveOf}
+use Rattle.switch_net.specs.Refusals.{IsFetBelow, AreParts, IsNone, is_askable, IsCircuit, IsFloating, IsMisnamed}
 use Rattle.switch_net.proofs.Checking.{none_below}
 
 abbrev net : ℕ → NetId

@@ -1,5 +1,5 @@
 -- What the marks of a net's chain tell of its paths.
-use Rattle.std.proofs.Common.{◌≡◌, inl, inr, ℕ, Bool, true, false, ◌&&◌, ◌||◌, ◌==◌, List, None, refl, sym, ◌∙◌, ap, subst}
+use Rattle.std.proofs.Common.{◌≡◌, inl, inr, ℕ, Bool, true, false, ◌&&◌, ◌==◌, List, None, refl, sym, ◌∙◌, ap}
 use Rattle.std.specs.List.{list_any}
 use Rattle.std.proofs.lemmas.Bool.{false≢true, and_parts, and_from, or_cases, or_left, or_right, eqb-true, eq-eqb}
 use Rattle.std.proofs.lemmas.List.Folds.{Any-from_list_any, list_any-from_Any}
@@ -16,7 +16,6 @@ abbrev leads : (ℕ → Bool) → List Bool → ℕ → Fet → Bool
 leads v marks s f = is_conducting v f && is_leading marks s f
 
 module _ (c : Switches) (v : ℕ → Bool) (start : ℕ) (marks : List Bool) (flooded : IsFlooded c v start marks) where
-
   -- from a transistor that leads from a marked net
   reached : (s : ℕ) → list_any (leads v marks s) c.fets ≡ true → IsReached c c.fets v start s
   reached s is =
@@ -55,7 +54,7 @@ module _ (c : Switches) (v : ℕ → Bool) (start : ℕ) (marks : List Bool) (fl
   led s h =
       let marked : value marks h.last ≡ true = (flooded.marked h.last).back h.linked in
       any_mapped (λ f. is_conducting v f && is_across f h.last s) (leads v marks s) c.fets
-          (λ f passes. let (on, across) = and_parts (is_conducting v f) (is_across f h.last s) passes in and_from (is_conducting v f) (is_leading marks s f) on (leading_from f h.last s marked across)) h.step
+      (λ f passes. let (on, across) = and_parts (is_conducting v f) (is_across f h.last s) passes in and_from (is_conducting v f) (is_leading marks s f) on (leading_from f h.last s marked across)) h.step
 
   told : (s : ℕ) (goes : Bool) → is_supply c start ≡ false → goes ≡ list_any (leads v marks s) c.fets → IsSame (goes ≡ true) (HasPath c c.fets None v start s)
   told s goes plain is = record {

@@ -5,3 +5,4 @@ pub mod Choosing
 pub mod Checking
 pub mod Passes
 pub mod Driving
+pub mod Worked

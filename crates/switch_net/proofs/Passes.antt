@@ -1,14 +1,14 @@
 -- One transistor more of a pass over the transistors, and what a pass that marks nothing shows.
-use Rattle.std.proofs.Common.{arith, ◌≡◌, inl, inr, ℕ, ◌<◌, ◌≤◌, ◌+◌, Bool, true, false, ◌&&◌, ◌||◌, ◌==◌, not, List, [], ◌∷◌, length, get_or, take, refl, sym, ◌∙◌, ap, subst}
-use Rattle.std.specs.List.{All, list_any}
-use Rattle.std.proofs.lemmas.Bool.{false≢true, true≢false, and_parts, and_from, or_cases, or_parts, or_left, eqb-true, eq-eqb, cases_Bool, not-true}
+use Rattle.std.proofs.Common.{arith, ◌≡◌, inl, inr, ℕ, ◌<◌, ◌≤◌, ◌+◌, Bool, true, false, ◌&&◌, ◌||◌, ◌==◌, not, List, [], length, get_or, take, refl, sym, ◌∙◌, ap, subst}
+use Rattle.std.specs.List.{All}
+use Rattle.std.proofs.lemmas.Bool.{false≢true, and_parts, and_from, or_cases, or_parts, or_left, eqb-true, eq-eqb, cases_Bool, not-true}
 use Rattle.std.proofs.lemmas.List.Elements.{All-more}
 use Rattle.std.proofs.lemmas.List.Folds.{Any-from_list_any, list_any_at}
 use Rattle.link_classes.specs.Linked.{Linked}
 use Rattle.link_classes.proofs.Chains.{linked_refl, linked_touch, linked_trans, linked_sym, linked_kept}
 use Rattle.switch_net.specs.declared.fets.Fet.{Fet}
 use Rattle.switch_net.specs.Switches.{Switches, net_count, value, is_supply, is_terminal}
-use Rattle.switch_net.specs.Conduction.{IsSame, is_conducting, is_across, is_step, is_joined}
+use Rattle.switch_net.specs.Conduction.{is_conducting, is_across, is_joined}
 use Rattle.switch_net.specs.Spreads.{room, is_joining, IsEven, IsGrown, IsJoined, IsSpread, IsFlooding, IsFlooded}
 use Rattle.switch_net.proofs.Steps.{joined_parts, joined_from}
 
@@ -120,7 +120,7 @@ pub spread_next : (c : Switches) (v : ℕ → Bool) (fets : List Fet) (k : ℕ) 
     → IsSpread c v (take k c.fets) old mid grown → IsJoined c v (get_or fets k d) mid new more → now ≡ (more || grown) → IsSpread c v (take (k + 1) c.fets) old new now
 spread_next c v fets k d old mid new grown more now same lt before step is =
     subst (IsSpread c v (take (k + 1) c.fets) old new) (sym is)
-        (spread_more c v k d old mid new grown more (omega (arith, lt, ap length same)) before (subst (λ fs. IsJoined c v (get_or fs k d) mid new more) same step))
+    (spread_more c v k d old mid new grown more (omega (arith, lt, ap length same)) before (subst (λ fs. IsJoined c v (get_or fs k d) mid new more) same step))
 
 -- ---- all passes
 
@@ -154,10 +154,10 @@ even_joined c v marks even a b is =
           sym (same_ends f b a (eqb-true f.a.0 b at_b) (eqb-true f.b.0 a at_a) on b_plain a_plain f_even)
     ]
   where
-  same_ends : (f : Fet) (x y : ℕ) → f.a.0 ≡ x → f.b.0 ≡ y → is_conducting v f ≡ true → is_supply c x ≡ false → is_supply c y ≡ false → IsEven c v marks f → value marks x ≡ value marks y
-  same_ends f x y at_x at_y on x_plain y_plain f_even =
-      let ends : (not (is_supply c f.a.0) && not (is_supply c f.b.0)) ≡ true = and_from (not (is_supply c f.a.0)) (not (is_supply c f.b.0)) (ap (λ n. not (is_supply c n)) at_x ∙ ap not x_plain) (ap (λ n. not (is_supply c n)) at_y ∙ ap not y_plain) in
-      sym (ap (value marks) at_x) ∙ f_even.even (and_from (is_conducting v f) (not (is_supply c f.a.0) && not (is_supply c f.b.0)) on ends) ∙ ap (value marks) at_y
+    same_ends : (f : Fet) (x y : ℕ) → f.a.0 ≡ x → f.b.0 ≡ y → is_conducting v f ≡ true → is_supply c x ≡ false → is_supply c y ≡ false → IsEven c v marks f → value marks x ≡ value marks y
+    same_ends f x y at_x at_y on x_plain y_plain f_even =
+        let ends : (not (is_supply c f.a.0) && not (is_supply c f.b.0)) ≡ true = and_from (not (is_supply c f.a.0)) (not (is_supply c f.b.0)) (ap (λ n. not (is_supply c n)) at_x ∙ ap not x_plain) (ap (λ n. not (is_supply c n)) at_y ∙ ap not y_plain) in
+        sym (ap (value marks) at_x) ∙ f_even.even (and_from (is_conducting v f) (not (is_supply c f.a.0) && not (is_supply c f.b.0)) on ends) ∙ ap (value marks) at_y
 
 -- after a pass that marks nothing, exactly what is linked to the start is marked
 pub flooded : (c : Switches) (v : ℕ → Bool) (start : ℕ) (old new : List Bool) (grown : Bool) → IsFlooding c v start old → IsSpread c v c.fets old new grown → grown ≡ false → IsFlooded c v start new

@@ -1,5 +1,5 @@
 -- A path to a net is a chain of joined nets and one step.
-use Rattle.std.proofs.Common.{◌≡◌, inl, inr, ℕ, Bool, true, false, ◌||◌, List, [], ◌∷◌, None, sym, subst}
+use Rattle.std.proofs.Common.{◌≡◌, inl, inr, ℕ, Bool, true, false, List, [], ◌∷◌, None, sym, subst}
 use Rattle.std.proofs.lemmas.Bool.{false≢true, or_cases, or_left}
 use Rattle.link_classes.specs.Linked.{IsChain}
 use Rattle.link_classes.proofs.Chains.{linked_refl, linked_touch, linked_trans}

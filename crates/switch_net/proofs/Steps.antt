@@ -1,12 +1,12 @@
 -- Steps along conducting transistors lead both ways.
-use Rattle.std.proofs.Common.{◌≡◌, inl, inr, ℕ, Bool, true, false, ◌&&◌, ◌||◌, ◌==◌, not, List, [], ◌∷◌, refl, sym, ◌∙◌, ap}
+use Rattle.std.proofs.Common.{◌≡◌, inl, inr, ℕ, Bool, true, false, ◌&&◌, ◌==◌, not, List, [], ◌∷◌, ◌∙◌, ap}
 use Rattle.std.specs.List.{list_any}
 use Rattle.std.proofs.Math.Bool.{or_comm}
 use Rattle.std.proofs.lemmas.Bool.{and_parts, and_from, or_cases, or_left, or_right, not-true}
 use Rattle.link_classes.specs.Linked.{AreTouching}
 use Rattle.switch_net.specs.declared.fets.Fet.{Fet}
 use Rattle.switch_net.specs.Switches.{Switches, is_supply}
-use Rattle.switch_net.specs.Conduction.{is_conducting, is_across, is_step, is_joined}
+use Rattle.switch_net.specs.Conduction.{is_conducting, is_step, is_joined}
 
 -- where one test implies another, so does that some element passes it
 pub any_mapped : {X : Type 0} (p q : X → Bool) (xs : List X) → ((x : X) → p x ≡ true → q x ≡ true) → list_any p xs ≡ true → list_any q xs ≡ true

@@ -1,5 +1,5 @@
 -- Which circuits are accepted, and why one is not.
-use Rattle.std.specs.Prelude.{◌≡◌, ℕ, ◌<◌, ◌≤◌, Bool, true, false, ◌&&◌, not, List, length, slice_get, Some}
+use Rattle.std.specs.Prelude.{◌≡◌, ℕ, ◌<◌, ◌≤◌, Bool, true, false, ◌&&◌, not, length, slice_get, Some}
 use Rattle.std.specs.List.{All}
 use Rattle.switch_net.specs.declared.NetId.{NetId}
 use Rattle.switch_net.specs.declared.fets.Fet.{Fet}

@@ -13,7 +13,7 @@ use crate::parts::Parts;
 use std::alloc::{AllocError, Global};
 
 /// Which nets gate a transistor, and which are a terminal of one.
-#[derive(Debug, Drop)]
+#[derive(Drop)]
 pub(crate) struct Uses {
     gates: Vec<bool>,
     terminals: Vec<bool>,

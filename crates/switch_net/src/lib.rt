@@ -11,6 +11,7 @@
 mod checks;
 mod circuits;
 mod classes;
+mod conditions;
 mod drives;
 mod fets;
 mod laws;
@@ -22,6 +23,7 @@ mod spreading;
 
 pub use circuits::Circuit;
 pub use classes::{Class, Test};
+pub use conditions::are_parts;
 pub use drives::{Drive, Scratch};
 pub use fets::{Fet, conducts};
 pub use laws::{empty_paths_drive_nothing, one_refusal, paths_are_chains};

@@ -1,7 +1,6 @@
 use Rattle.std.proofs.Common.{◌≡◌, false, not, sym, ◌∙◌, ap}
 use Rattle.std.proofs.lemmas.Bool.{and_from}
 use Rattle.switch_net.specs.Switches.{value}
-use Rattle.switch_net.proofs.Checking.{none_floats}
 use Rattle.switch_net.proofs.checks.first_floating.Goals as goal
 
 pub returns-then-not-value_of : goal.returns-then-not-value_of

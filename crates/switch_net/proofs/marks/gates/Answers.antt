@@ -1,4 +1,4 @@
-use Rattle.std.proofs.Common.{◌≡◌, ◌∙◌}
+use Rattle.std.proofs.Common.{◌∙◌}
 use Rattle.std.proofs.lemmas.List.{length-set}
 use Rattle.switch_net.proofs.Marking.{gates_more}
 use Rattle.switch_net.proofs.marks.gates.Goals as goal

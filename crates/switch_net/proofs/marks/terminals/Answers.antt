@@ -1,4 +1,4 @@
-use Rattle.std.proofs.Common.{◌≡◌, ◌∙◌}
+use Rattle.std.proofs.Common.{◌∙◌}
 use Rattle.std.proofs.lemmas.List.{length-set}
 use Rattle.switch_net.proofs.Marking.{terminals_more}
 use Rattle.switch_net.proofs.marks.terminals.Goals as goal

@@ -1,4 +1,4 @@
-use Rattle.switch_net.specs.Switches.{net_count, value}
+use Rattle.switch_net.specs.Switches.{value}
 use Rattle.switch_net.specs.Spreads.{room, IsFlooding}
 use Rattle.switch_net.proofs.spreading.flood.Given as goal
 

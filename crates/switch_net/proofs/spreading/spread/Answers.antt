@@ -1,4 +1,4 @@
-use Rattle.std.proofs.Common.{◌≡◌, ◌∙◌, ap}
+use Rattle.std.proofs.Common.{◌∙◌, ap}
 use Rattle.switch_net.proofs.Passes.{spread_next}
 use Rattle.switch_net.proofs.spreading.spread.Goals as goal
 

@@ -1,4 +1,4 @@
-//! The tests of the crates that read layouts and layer maps, unfold calls and name nets.
+//! The tests of the crates that read layouts and layer maps, unfold calls, name nets and list transistors.
 //!
 //! Each module tests the crate of its name. A test calls public items alone, on rows whose answers come from outside. The
 //! tests stand apart from the crates, since the tests of a crate are checked together with all of its proofs.
@@ -10,6 +10,8 @@ mod cif_flatten_tests;
 mod cif_grammar_tests;
 #[cfg(test)]
 mod cif_reader_tests;
+#[cfg(test)]
+mod device_extract_tests;
 #[cfg(test)]
 mod fixtures;
 #[cfg(test)]

@@ -48,6 +48,12 @@ trace_made wires cuts cuts' joins first second pairs pairs' label least least' r
     (subst (λ (l : List Vertex). AreClasses (length l) (has_pair pairs) label least) is_first (subst (λ (p : List (ℕ × ℕ)). AreClasses (length first) (has_pair p) label least) is_pairs classes))
     (subst (λ (l : List Vertex). AreCorners l least (length least) roots) is_second (subst (λ (l : List ℕ). AreCorners second l (length l) roots) is_least corners)))
 
+-- the labels, by equal lists of cuts and of joins
+pub cuts_moved : (wires : List (List Strip)) (from to : List Cut) (joins : List (Node × Node)) (label : List ℕ) (roots : List Node) → from ≡ to → joins ≡ []
+    → IsTraced (record { wires = wires; cuts = from; joins = [] }) label roots → IsTraced (record { wires = wires; cuts = to; joins = joins }) label roots
+cuts_moved wires from to joins label roots is_cuts is_joins h =
+    subst (λ (j : List (Node × Node)). IsTraced (record { wires = wires; cuts = to; joins = j }) label roots) (sym is_joins) (subst (λ (c : List Cut). IsTraced (record { wires = wires; cuts = c; joins = [] }) label roots) is_cuts h)
+
 map_wires : (lines : List CutLine) → map (λ c. numbers_seen c.wires.items) lines ≡ map (λ c. c.wires) (map cut_seen lines)
 map_wires [] = refl
 map_wires (l ∷ lines) = ap (λ ws. numbers_seen l.wires.items ∷ ws) (map_wires lines)

@@ -15,3 +15,12 @@ pub enum Kind {
     /// It conducts where its gate is 0.
     P,
 }
+
+/// A transistor: between its two terminals it conducts or not, as its kind and the value of its gate say.
+#[derive(Clone, Copy, Debug, PartialEq, Eq)]
+pub struct Fet {
+    pub kind: Kind,
+    pub gate: NetId,
+    pub a: NetId,
+    pub b: NetId,
+}

@@ -1,0 +1,117 @@
+//! Which nets are terminals of which transistors.
+
+ghost use Rattle.std.specs.Prelude.{◌≡◌, length, IfOk, OnOk, IfSome, MatchOption};
+ghost use Rattle.device_extract.specs.Channels.{channel_plane, wire_plane};
+ghost use Rattle.device_extract.specs.Contacts.{AreSides, IsSideOf, AreTouched, AreContactsAdded, AreContacts};
+
+use crate::shifts::shifted;
+use layer_map::{LayerMap, WireId};
+use mask_region::{Masks, Region, Strip};
+use net_trace::{Pieces, Traced};
+use plane_geom::Point;
+use std::alloc::{AllocError, Global};
+use switch_net::NetId;
+
+/// One of the four sides of the channel cells of a line: the cells that lie so far to the right and up from them, on the
+/// line's diff wire.
+#[derive(Clone, Copy, Debug, PartialEq, Eq)]
+pub(crate) struct Side {
+    pub line: u32,
+    pub diff: WireId,
+    pub right: i32,
+    pub up: i32,
+}
+
+/// Pairs of a transistor and one of its terminals: each terminal of each transistor is in a pair, maybe in several.
+pub(crate) fn contacts(
+    alloc: Global,
+    masks: &Masks,
+    map: &LayerMap,
+    traced: &Traced,
+    pieces: &Pieces,
+) -> Result<Vec<(usize, NetId)>, AllocError>
+    requires wires { length masks.now.wires ≡ length map.now.wires }
+    requires channels { length masks.now.channels ≡ length map.now.fets }
+    requires traced { traced.now.wires ≡ masks.now.wires }
+    requires pieces { pieces.now ≡ channel_plane masks.now }
+    ensures { IfOk result (λ v. AreContacts map.now masks.now traced.now v.items) }
+{
+    let mut contacts = Vec::new(alloc);
+    for side in &sides(alloc, map)? {
+        let touched = touched(alloc, masks, *side)?;
+        add_contacts(&mut contacts, traced, pieces, &touched, *side)?;
+    }
+    Ok(contacts)
+}
+
+/// The four sides of the channel cells of each line.
+fn sides(alloc: Global, map: &LayerMap) -> Result<Vec<Side>, AllocError>
+    ensures { IfOk result (λ v. AreSides map.now.fets (length map.now.fets) v.items) }
+{
+    let mut sides = Vec::new(alloc);
+    for (k, line) in map.fets().iter().enumerate() {
+        sides.push(side_of(k, line.diff, 1, 0))?;
+        sides.push(side_of(k, line.diff, -1, 0))?;
+        sides.push(side_of(k, line.diff, 0, 1))?;
+        sides.push(side_of(k, line.diff, 0, -1))?;
+    }
+    Ok(sides)
+}
+
+/// The side of the line with that index.
+fn side_of(k: usize, diff: WireId, right: i32, up: i32) -> Side {
+    Side {
+        line: k as u32,
+        diff,
+        right,
+        up,
+    }
+}
+
+/// The cells of the side.
+fn touched(alloc: Global, masks: &Masks, side: Side) -> Result<Region, AllocError>
+    ensures { IfOk result (λ r. AreTouched (channel_plane masks.now) (wire_plane masks.now) side r) }
+{
+    let channel = &masks.channels()[side.line as usize];
+    let wire = &masks.wires()[side.diff.0 as usize];
+    shifted(alloc, channel, side.right, side.up)?.meet(alloc, wire)
+}
+
+/// Adds the transistors and nets at the cells of the side. Of each strip of them one cell is enough, since its cells lie
+/// on one net, and so do the channel cells from which they lie on one transistor.
+fn add_contacts(
+    contacts: &mut Vec<(usize, NetId)>,
+    traced: &Traced,
+    pieces: &Pieces,
+    touched: &Region,
+    side: Side,
+) -> Result<(), AllocError>
+    ensures { OnOk result (AreContactsAdded pieces.now traced.now side contacts.old.items contacts.new.items) }
+{
+    for strip in touched.strips() {
+        if let Some(contact) = contact_at(traced, pieces, strip, side) {
+            contacts.push(contact)?;
+        }
+    }
+    Ok(())
+}
+
+/// The transistor and the net at the least cell of the strip.
+fn contact_at(
+    traced: &Traced,
+    pieces: &Pieces,
+    strip: &Strip,
+    side: Side,
+) -> Option<(usize, NetId)> {
+    let cell = Point {
+        x: strip.x0 as i64,
+        y: strip.y0 as i64,
+    };
+    let channel = Point {
+        x: cell.x - side.right as i64,
+        y: cell.y - side.up as i64,
+    };
+    let fet = pieces.piece_at(side.line, channel)?;
+    let net = traced.net_at(side.diff, cell)?;
+    Some((fet, net))
+}

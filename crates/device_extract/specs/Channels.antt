@@ -1,10 +1,11 @@
 -- Channel cells, and the transistors that they are.
-use Rattle.std.specs.Prelude.{◌≡◌, ℕ, ℤ, Bool, true, false, Some, slice_get}
+use Rattle.std.specs.Prelude.{◌≡◌, ℕ, ℤ, Bool, true, false, List, Some, slice_get}
 use Rattle.std.specs.declared.cmp.Ordering.TheVariants.{Less}
 use Rattle.plane_geom.specs.declared.shapes.Point.{Point}
 use Rattle.layer_map.specs.Plan.{Plan}
 use Rattle.layer_map.specs.Plan as layers
-use Rattle.mask_region.specs.Strips.{MaskLists}
+use Rattle.mask_region.specs.declared.strips.Strip.{Strip}
+use Rattle.mask_region.specs.Strips.{MaskLists, is_in}
 use Rattle.net_trace.specs.Touching.{Nets, plane_of, has_node}
 use Rattle.net_trace.specs.Nets.{node_cmp, node_at, IsNetNumber}
 
@@ -30,6 +31,11 @@ pub record IsLeastCellOf (masks : MaskLists) (t : ℕ) (cell : Point) : Type 0 w
   pub line : ℕ
   pub of : IsCellOf masks t line cell.x cell.y
   pub least : (m : ℕ) (x y : ℤ) → IsCellOf masks t m x y → node_cmp (node_at m x y) (node_at line cell.x cell.y) ≡ Less → ⊥
+
+-- The cell is the least one of the region, in the order of y and x.
+pub record IsLeastIn (region : List Strip) (cell : Point) : Type 0 where
+  pub has : is_in region cell.x cell.y ≡ true
+  pub least : (w : ℕ) (x y : ℤ) → is_in region x y ≡ true → node_cmp (node_at w x y) (node_at w cell.x cell.y) ≡ Less → ⊥
 
 -- ---- gates
 

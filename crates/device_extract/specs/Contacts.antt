@@ -57,12 +57,15 @@ pub record AreTouched (plane wires : Nets) (side : Side) (region : List Strip) :
 abbrev pub has_contact : List (ℕ × NetId) → ℕ → ℕ → Bool
 has_contact contacts t net = list_any (λ c. (c.0 == t) && (c.1.0 == net)) contacts
 
--- At a cell of the side the transistor's cell lies beside a node of the net.
+-- The node at the cell of the side is of this net, and the channel cell from which it lies so far is of this transistor.
+pub record IsContactAt (plane nets : Nets) (side : Side) (x y : ℤ) (contact : ℕ × NetId) : Type 0 where
+  pub cell : IsNetNumber plane (node_at side.line (x -ℤ side.right) (y -ℤ side.up)) contact.0
+  pub number : IsNetNumber nets (node_at side.diff.0 x y) contact.1.0
+
 pub record IsContact (plane nets : Nets) (side : Side) (contact : ℕ × NetId) : Type 0 where
   pub x : ℤ
   pub y : ℤ
-  pub cell : IsNetNumber plane (node_at side.line (x -ℤ side.right) (y -ℤ side.up)) contact.0
-  pub number : IsNetNumber nets (node_at side.diff.0 x y) contact.1.0
+  pub at : IsContactAt plane nets side x y contact
 
 -- All contacts of the side were added.
 pub record AreContactsAdded (plane nets : Nets) (side : Side) (old new : List (ℕ × NetId)) : Type 0 where

@@ -1,8 +1,9 @@
 //! Which nets are terminals of which transistors.
 
-ghost use Rattle.std.specs.Prelude.{◌≡◌, length, IfOk, OnOk, IfSome, MatchOption};
+ghost use Rattle.std.specs.Prelude.{◌≡◌, ◌<◌, ◌&&◌, ◌-ℤ◌, false, None, length, IfOk, OnOk, IfSome};
+ghost use Rattle.net_trace.specs.Touching.{has_node};
 ghost use Rattle.device_extract.specs.Channels.{channel_plane, wire_plane};
-ghost use Rattle.device_extract.specs.Contacts.{AreSides, IsSideOf, AreTouched, AreContactsAdded, AreContacts};
+ghost use Rattle.device_extract.specs.Contacts.{AreSides, IsStep, AreTouched, IsContactAt, AreContactsAdded, AreContacts};
 
 use crate::shifts::shifted;
 use layer_map::{LayerMap, WireId};
@@ -59,7 +60,10 @@ fn sides(alloc: Global, map: &LayerMap) -> Result<Vec<Side>, AllocError>
 }
 
 /// The side of the line with that index.
-fn side_of(k: usize, diff: WireId, right: i32, up: i32) -> Side {
+fn side_of(k: usize, diff: WireId, right: i32, up: i32) -> Side
+    requires { k < 8 }
+    ensures { result ≡ record { line = k; diff = diff; right = right; up = up } }
+{
     Side {
         line: k as u32,
         diff,
@@ -70,6 +74,9 @@ fn side_of(k: usize, diff: WireId, right: i32, up: i32) -> Side {
 
 /// The cells of the side.
 fn touched(alloc: Global, masks: &Masks, side: Side) -> Result<Region, AllocError>
+    requires line { side.line < length masks.now.channels }
+    requires wire { side.diff.0 < length masks.now.wires }
+    requires step { IsStep side.right side.up }
     ensures { IfOk result (λ r. AreTouched (channel_plane masks.now) (wire_plane masks.now) side r) }
 {
     let channel = &masks.channels()[side.line as usize];
@@ -86,6 +93,7 @@ fn add_contacts(
     touched: &Region,
     side: Side,
 ) -> Result<(), AllocError>
+    requires { AreTouched pieces.now traced.now side touched.now }
     ensures { OnOk result (AreContactsAdded pieces.now traced.now side contacts.old.items contacts.new.items) }
 {
     for strip in touched.strips() {
@@ -102,7 +110,10 @@ fn contact_at(
     pieces: &Pieces,
     strip: &Strip,
     side: Side,
-) -> Option<(usize, NetId)> {
+) -> Option<(usize, NetId)>
+    ensures none { result ≡ None → (has_node pieces.now side.line (strip.now.x0 -ℤ side.right) (strip.now.y0 -ℤ side.up) && has_node traced.now side.diff.0 strip.now.x0 strip.now.y0) ≡ false }
+    ensures some { IfSome result (λ contact. IsContactAt pieces.now traced.now side strip.now.x0 strip.now.y0 contact) }
+{
     let cell = Point {
         x: strip.x0 as i64,
         y: strip.y0 as i64,

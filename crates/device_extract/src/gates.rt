@@ -1,7 +1,8 @@
 //! Channel cells with no gate.
 
-ghost use Rattle.std.specs.Prelude.{◌≡◌, length, IfOk, MatchOption};
-ghost use Rattle.device_extract.specs.Channels.{AreGated, IsFirstUngated};
+ghost use Rattle.std.specs.Prelude.{◌≡◌, ℤ, false, length, IfOk, MatchOption};
+ghost use Rattle.mask_region.specs.Strips.{is_in};
+ghost use Rattle.device_extract.specs.Channels.{AreGated, IsFirstUngated, IsLeastIn};
 
 use layer_map::LayerMap;
 use mask_region::{Masks, Region, Strip};
@@ -29,8 +30,11 @@ pub(crate) fn first_ungated(
 }
 
 /// The least cell of a region, in the order of y and x: its strips come in that order.
-fn least_cell(region: &Region) -> Option<Point> {
-    region.strips().first().map(corner_of)
+fn least_cell(region: &Region) -> Option<Point>
+    ensures { MatchOption result ((x y : ℤ) → is_in region.now x y ≡ false) (IsLeastIn region.now) }
+{
+    let strip = region.strips().first()?;
+    Some(corner_of(strip))
 }
 
 /// The least cell of a strip.

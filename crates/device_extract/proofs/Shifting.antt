@@ -1,0 +1,66 @@
+-- Regions that are shifted strip by strip.
+use Rattle.std.proofs.Common.{◌≡◌, ℕ, zero, suc, ◌+◌, ◌<◌, ◌≤◌, ◌^◌, Bool, ◌||◌, List, [], ◌∷◌, ◌++◌, length, map, take, refl, sym, ap, ◌∙◌, subst, arith, get_or}
+use Rattle.std.specs.Prelude.{ℤ, ◌+ℤ◌, ◌-ℤ◌}
+use Rattle.std.specs.List.{All, AllByRecursion}
+use Rattle.std.proofs.lemmas.Int.{ints}
+use Rattle.std.proofs.lemmas.List.{map-append, take_more, take_all}
+use Rattle.std.proofs.lemmas.List.Elements.{recursion_from_All}
+use Rattle.plane_geom.specs.Bounds.{IsWithin}
+use Rattle.mask_region.specs.declared.strips.Strip.{Strip}
+use Rattle.mask_region.specs.Strips.{is_in_strip, is_in, IsStrip, Follows, IsBanded, Banded, IsStripWithin, AreStripsWithin}
+use Rattle.mask_region.proofs.Areas.{all_take}
+use Rattle.device_extract.specs.Contacts.{strip_shifted}
+
+banded_take : (k : ℕ) (strips : List Strip) → IsBanded strips → IsBanded (take k strips)
+banded_take zero strips h = tt
+banded_take (suc k) [] h = tt
+banded_take (suc k) (s ∷ strips) h = (h.0, all_take (Follows s) k strips h.1, banded_take k strips h.2)
+
+module _ (right up : ℤ) (within_right : IsWithin 1 right) (within_up : IsWithin 1 up) where
+  shift_strip : (s : Strip) → IsStrip s → IsStripWithin (2 ^ 24) s → IsStrip (strip_shifted right up s)
+  shift_strip s h w = record {
+    wide = let a = h.wide in omega (arith, ints, a);
+    high = let a = h.high in omega (arith, ints, a);
+    left = let a = w.x0.low in let b = within_right.low in omega (arith, ints, a, b);
+    below = let a = w.y0.low in let b = within_up.low in omega (arith, ints, a, b);
+    right = let a = w.x1.high in let b = within_right.high in omega (arith, ints, a, b);
+    above = let a = w.y1.high in let b = within_up.high in omega (arith, ints, a, b);
+  }
+
+  shift_follows : (s t : Strip) → Follows s t → Follows (strip_shifted right up s) (strip_shifted right up t)
+  shift_follows s t f = record {
+    later = let a = f.later in omega (arith, ints, a);
+    apart = λ lt. let a = f.apart (omega (arith, ints, lt)) in omega (arith, ints, a);
+    band = λ e. let a = f.band (omega (arith, ints, e)) in omega (arith, ints, a);
+    right = λ e. let a = f.right (omega (arith, ints, e)) in omega (arith, ints, a);
+  }
+
+  follows_all : (s : Strip) (ts : List Strip) → AllByRecursion (Follows s) ts → AllByRecursion (Follows (strip_shifted right up s)) (map (strip_shifted right up) ts)
+  follows_all s [] h = tt
+  follows_all s (t ∷ ts) h = (shift_follows s t h.0, follows_all s ts h.1)
+
+  shift_banded : (strips : List Strip) → IsBanded strips → AllByRecursion (IsStripWithin (2 ^ 24)) strips → IsBanded (map (strip_shifted right up) strips)
+  shift_banded [] h w = tt
+  shift_banded (s ∷ ts) h w = (shift_strip s h.0 w.0, follows_all s ts h.1, shift_banded ts h.2 w.1)
+
+-- one strip more
+pub shifted_more : (right up : ℤ) (strips out new : List Strip) (k : ℕ) (d : Strip) → k < length strips → out ≡ map (strip_shifted right up) (take k strips) → new ≡ out ++ strip_shifted right up (get_or strips k d) ∷ []
+    → new ≡ map (strip_shifted right up) (take (k + 1) strips)
+shifted_more right up strips out new k d lt is more =
+    more ∙ ap (λ l. l ++ strip_shifted right up (get_or strips k d) ∷ []) is ∙ sym (map-append (strip_shifted right up) (take k strips) (get_or strips k d ∷ [])) ∙ ap (map (strip_shifted right up)) (sym (take_more strips k d lt))
+
+pub shifted_banded : (right up : ℤ) (strips out : List Strip) (k : ℕ) (d : Strip) → IsWithin 1 right → IsWithin 1 up → Banded strips → AreStripsWithin (2 ^ 24) strips → k < length strips → out ≡ map (strip_shifted right up) (take k strips)
+    → Banded (out ++ strip_shifted right up (get_or strips k d) ∷ [])
+shifted_banded right up strips out k d in_right in_up banded within lt is =
+    subst Banded (sym (shifted_more right up strips out (out ++ strip_shifted right up (get_or strips k d) ∷ []) k d lt is refl))
+    (record { each = shift_banded right up in_right in_up (take (k + 1) strips) (banded_take (k + 1) strips banded.each) (all_take (IsStripWithin (2 ^ 24)) (k + 1) strips (recursion_from_All (IsStripWithin (2 ^ 24)) strips within.each)) })
+
+cell_shifted : (right up : ℤ) (s : Strip) (x y : ℤ) → is_in_strip (strip_shifted right up s) x y ≡ is_in_strip s (x -ℤ right) (y -ℤ up)
+cell_shifted right up s x y = grind (arith, ints)
+
+pub shifted_cells : (right up : ℤ) (strips : List Strip) (x y : ℤ) → is_in (map (strip_shifted right up) strips) x y ≡ is_in strips (x -ℤ right) (y -ℤ up)
+shifted_cells right up [] x y = refl
+shifted_cells right up (s ∷ strips) x y = λ i. cell_shifted right up s x y i || shifted_cells right up strips x y i
+
+pub shifted_all : (right up : ℤ) (strips out : List Strip) (k : ℕ) → length strips ≤ k → out ≡ map (strip_shifted right up) (take k strips) → (x y : ℤ) → is_in out x y ≡ is_in strips (x -ℤ right) (y -ℤ up)
+shifted_all right up strips out k le is x y = ap (λ (l : List Strip). is_in l x y) (is ∙ ap (map (strip_shifted right up)) (take_all k strips le)) ∙ shifted_cells right up strips x y

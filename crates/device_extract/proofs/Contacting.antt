@@ -1,6 +1,6 @@
 -- Transistors and nets that touch at the cells of a side.
-use Rattle.std.proofs.Common.{◌≡◌, ℕ, ◌+◌, ◌<◌, ◌≤◌, Bool, true, false, ◌&&◌, ◌||◌, ◌==◌, List, [], ◌∷◌, ◌++◌, length, take, refl, sym, ap, ◌∙◌, subst, arith, inl, inr, slice_get, get_or, Some, append_assoc}
-use Rattle.std.specs.Prelude.{ℤ, ◌+ℤ◌, ◌-ℤ◌}
+use Rattle.std.proofs.Common.{◌≡◌, ℕ, ◌+◌, ◌<◌, ◌≤◌, Bool, true, false, not, ◌&&◌, ◌||◌, ◌==◌, List, [], ◌∷◌, ◌++◌, length, refl, sym, ap, ◌∙◌, subst, arith, inl, inr, slice_get, get_or, Some, append_assoc}
+use Rattle.std.specs.Prelude.{ℤ, ◌+ℤ◌, ◌-ℤ◌, int_lt}
 use Rattle.std.specs.List.{All, list_any}
 use Rattle.std.proofs.lemmas.Bool.{cases_order, and_parts, and_from, eqb-true, eq-eqb, or_left}
 use Rattle.std.proofs.lemmas.Int.{ints}
@@ -10,6 +10,7 @@ use Rattle.std.proofs.lemmas.Option.{slice_get_within, slice_get-get_or}
 use Rattle.link_classes.specs.Linked.{Linked}
 use Rattle.link_classes.proofs.Chains.{linked_sym, linked_map, linked_touch}
 use Rattle.link_classes.proofs.UniqueNumbers.{some_one}
+use Rattle.plane_geom.specs.Cells.{is_between}
 use Rattle.switch_net.specs.declared.NetId.{NetId}
 use Rattle.layer_map.specs.Plan.{Plan}
 use Rattle.layer_map.specs.Plan as layers
@@ -46,14 +47,23 @@ strip_one nets w s x y m n cells here first second =
         linked_touch (is_link nets) a b (touch_link nets a b (and_from (is_node nets a && is_node nets b) (is_along a b || is_through nets.cuts a b) nodes (or_left (is_along a b) (is_through nets.cuts a b) along)))
 
 -- the same for cells that lie a step from those of a strip
-strip_back : (right up : ℤ) (s : Strip) → Strip
-strip_back right up s = record { y0 = s.y0 -ℤ up; y1 = s.y1 -ℤ up; x0 = s.x0 -ℤ right; x1 = s.x1 -ℤ right }
+low_on : (a x r : ℤ) → int_lt x (a -ℤ r) ≡ int_lt (x +ℤ r) a
+low_on a x r = grind (arith, ints)
+
+low_of : (a x r : ℤ) → int_lt (x -ℤ r) (a -ℤ r) ≡ int_lt x a
+low_of a x r = grind (arith, ints)
+
+span_on : (a b x r : ℤ) → is_between (a -ℤ r) (b -ℤ r) x ≡ is_between a b (x +ℤ r)
+span_on a b x r = λ i. not (low_on a x r i) && low_on b x r i
+
+span_of : (a b x r : ℤ) → is_between (a -ℤ r) (b -ℤ r) (x -ℤ r) ≡ is_between a b x
+span_of a b x r = λ i. not (low_of a x r i) && low_of b x r i
 
 back_on : (right up : ℤ) (s : Strip) (x y : ℤ) → is_in_strip (record { y0 = s.y0 -ℤ up; y1 = s.y1 -ℤ up; x0 = s.x0 -ℤ right; x1 = s.x1 -ℤ right }) x y ≡ is_in_strip s (x +ℤ right) (y +ℤ up)
-back_on right up s x y = grind (arith, ints)
+back_on right up s x y = λ i. span_on s.x0 s.x1 x right i && span_on s.y0 s.y1 y up i
 
 back_of : (right up : ℤ) (s : Strip) (x y : ℤ) → is_in_strip (record { y0 = s.y0 -ℤ up; y1 = s.y1 -ℤ up; x0 = s.x0 -ℤ right; x1 = s.x1 -ℤ right }) (x -ℤ right) (y -ℤ up) ≡ is_in_strip s x y
-back_of right up s x y = grind (arith, ints)
+back_of right up s x y = λ i. span_of s.x0 s.x1 x right i && span_of s.y0 s.y1 y up i
 
 there_and_back : (x r : ℤ) → (x +ℤ r) -ℤ r ≡ x
 there_and_back x r = omega (arith, ints)

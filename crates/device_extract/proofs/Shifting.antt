@@ -1,11 +1,12 @@
 -- Regions that are shifted strip by strip.
-use Rattle.std.proofs.Common.{◌≡◌, ℕ, zero, suc, ◌+◌, ◌<◌, ◌≤◌, ◌^◌, Bool, ◌||◌, List, [], ◌∷◌, ◌++◌, length, map, take, refl, sym, ap, ◌∙◌, subst, arith, get_or}
-use Rattle.std.specs.Prelude.{ℤ, ◌+ℤ◌, ◌-ℤ◌}
+use Rattle.std.proofs.Common.{◌≡◌, ℕ, zero, suc, ◌+◌, ◌<◌, ◌≤◌, ◌^◌, Bool, not, ◌&&◌, ◌||◌, List, [], ◌∷◌, ◌++◌, length, map, take, refl, sym, ap, ◌∙◌, subst, arith, get_or}
+use Rattle.std.specs.Prelude.{ℤ, ◌+ℤ◌, ◌-ℤ◌, int_lt}
 use Rattle.std.specs.List.{All, AllByRecursion}
 use Rattle.std.proofs.lemmas.Int.{ints}
 use Rattle.std.proofs.lemmas.List.{map-append, take_more, take_all}
 use Rattle.std.proofs.lemmas.List.Elements.{recursion_from_All}
 use Rattle.plane_geom.specs.Bounds.{IsWithin}
+use Rattle.plane_geom.specs.Cells.{is_between}
 use Rattle.mask_region.specs.declared.strips.Strip.{Strip}
 use Rattle.mask_region.specs.Strips.{is_in_strip, is_in, IsStrip, Follows, IsBanded, Banded, IsStripWithin, AreStripsWithin}
 use Rattle.mask_region.proofs.Areas.{all_take}
@@ -55,8 +56,15 @@ shifted_banded right up strips out k d in_right in_up banded within lt is =
     subst Banded (sym (shifted_more right up strips out (out ++ strip_shifted right up (get_or strips k d) ∷ []) k d lt is refl))
     (record { each = shift_banded right up in_right in_up (take (k + 1) strips) (banded_take (k + 1) strips banded.each) (all_take (IsStripWithin (2 ^ 24)) (k + 1) strips (recursion_from_All (IsStripWithin (2 ^ 24)) strips within.each)) })
 
+below_shifted : (a x r : ℤ) → int_lt x (a +ℤ r) ≡ int_lt (x -ℤ r) a
+below_shifted a x r = grind (arith, ints)
+
+-- a span that is shifted has a number where the span has the number that lies so far before it
+pub span_shifted : (a b x r : ℤ) → is_between (a +ℤ r) (b +ℤ r) x ≡ is_between a b (x -ℤ r)
+span_shifted a b x r = λ i. not (below_shifted a x r i) && below_shifted b x r i
+
 cell_shifted : (right up : ℤ) (s : Strip) (x y : ℤ) → is_in_strip (strip_shifted right up s) x y ≡ is_in_strip s (x -ℤ right) (y -ℤ up)
-cell_shifted right up s x y = grind (arith, ints)
+cell_shifted right up s x y = λ i. span_shifted s.x0 s.x1 x right i && span_shifted s.y0 s.y1 y up i
 
 pub shifted_cells : (right up : ℤ) (strips : List Strip) (x y : ℤ) → is_in (map (strip_shifted right up) strips) x y ≡ is_in strips (x -ℤ right) (y -ℤ up)
 shifted_cells right up [] x y = refl

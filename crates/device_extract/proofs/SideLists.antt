@@ -38,13 +38,16 @@ step_between x y i j beside = elim (or_cases (int_eq y j && is_step x i) (int_eq
   | inl row ↦ let (level, next) = and_parts (int_eq y j) (is_step x i) row in record { one = inl (equal y j level, along x i next) }
   | inr column ↦ let (level, next) = and_parts (int_eq x i) (is_step y j) column in record { one = inr (equal x i level, along y j next) }
 ] where
+  same : (p q : ℤ) → int_eq p q ≡ true → p ≡ q
+  same p q h = grind (arith, ints, h)
+
   equal : (p q : ℤ) → int_eq p q ≡ true → q -ℤ p ≡ pos 0
-  equal p q h = grind (arith, ints, h)
+  equal p q h = omega (arith, ints, same p q h)
 
   along : (p q : ℤ) → is_step p q ≡ true → (q -ℤ p ≡ pos 1) ⊎ (q -ℤ p ≡ neg_ℤ (pos 1))
   along p q h = elim (or_cases (int_eq q (p +ℤ pos 1)) (int_eq p (q +ℤ pos 1)) h) [
-    | inl up ↦ inl (grind (arith, ints, up))
-    | inr down ↦ inr (grind (arith, ints, down))
+    | inl up ↦ inl (omega (arith, ints, same q (p +ℤ pos 1) up))
+    | inr down ↦ inr (omega (arith, ints, same p (q +ℤ pos 1) down))
   ]
 
 -- a step leads to a cell beside the first
@@ -106,7 +109,7 @@ module _ (fets : List layers.Fet) (n : ℕ) (fet : layers.Fet) (at : slice_get f
           | inr last ↦ has_last sides s n f.diff a b (by_last f line_one last.0 a b last.2)
         ];
   }) where
-    by_last : (f : layers.Fet) → fet ≡ f → (j : ℕ) (a b : ℤ) → slice_get ((right, up) ∷ []) j ≡ Some (a, b) → IsSideAt n f.diff a b s
+    by_last : (f : layers.Fet) → fet ≡ f → (j : ℕ) (a b : ℤ) → slice_get {X = ℤ × ℤ} ((right, up) ∷ []) j ≡ Some (a, b) → IsSideAt n f.diff a b s
     by_last f one zero a b at_j =
         let same : (right, up) ≡ (a, b) = some_one (right, up) (a, b) at_j in
         record { line_is = is.line_is; diff_is = is.diff_is ∙ ap (λ (g : layers.Fet). g.diff) one; right_is = is.right_is ∙ ap (λ (p : ℤ × ℤ). p.0) same; up_is = is.up_is ∙ ap (λ (p : ℤ × ℤ). p.1) same }

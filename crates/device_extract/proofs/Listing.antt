@@ -1,0 +1,169 @@
+-- What the least cells and the ends of transistors say of the layout.
+use Rattle.std.proofs.Common.{◌≡◌, ℕ, zero, suc, ◌+◌, ◌<◌, ◌≤◌, ◌⊎◌, Bool, true, false, ◌&&◌, ◌==◌, List, [], ◌∷◌, length, refl, sym, ap, ◌∙◌, subst, arith, inl, inr, slice_get, get_or, Some, Option, None}
+use Rattle.std.specs.Prelude.{ℤ}
+use Rattle.std.specs.List.{All}
+use Rattle.std.specs.declared.cmp.Ordering.TheVariants.{Less}
+use Rattle.std.proofs.lemmas.Bool.{and_parts, eqb-true}
+use Rattle.std.proofs.lemmas.List.Folds.{Any-from_list_any}
+use Rattle.std.proofs.lemmas.Option.{slice_get_within, slice_get-get_or, slice_get_read}
+use Rattle.link_classes.specs.Linked.{Linked}
+use Rattle.link_classes.proofs.Chains.{linked_refl, linked_sym}
+use Rattle.link_classes.proofs.UniqueNumbers.{some_one, no_some}
+use Rattle.plane_geom.specs.declared.shapes.Point.{Point}
+use Rattle.switch_net.specs.declared.NetId.{NetId}
+use Rattle.switch_net.specs.declared.Fet.{Fet}
+use Rattle.layer_map.specs.Plan.{Plan}
+use Rattle.layer_map.specs.Plan as layers
+use Rattle.mask_region.specs.declared.strips.Strip.{Strip}
+use Rattle.mask_region.specs.Strips.{MaskLists}
+use Rattle.net_trace.specs.declared.node.Node.{Node}
+use Rattle.net_trace.specs.Touching.{Nets, is_in_wire, has_node}
+use Rattle.net_trace.specs.Nets.{node_cmp, node_at, is_link, AreNetRoots, IsNetNumber, IsNetCount}
+use Rattle.net_trace.proofs.NetNumbers.{net_links, net_below}
+use Rattle.net_trace.proofs.VertexFacts.{by_wire}
+use Rattle.device_extract.specs.declared.terminals.Ends.{Ends}
+use Rattle.device_extract.specs.declared.terminals.Ends.TheVariants.{Bare, One, Two, Crowded}
+use Rattle.device_extract.specs.Channels.{channel_plane, wire_plane, IsCellOf, IsLeastCellOf, IsUngated, AreGated}
+use Rattle.device_extract.specs.Transistors.{IsKindOf, IsGateOf, IsTerminalOf, IsTransistor, AreTransistors}
+use Rattle.device_extract.specs.Refusals.{IsBare, IsCrowded, IsFirstBare, IsFirstCrowded}
+use Rattle.device_extract.specs.Contacts.{has_contact, AreContacts, AreEnds, AreEndsOf, IsPair, HasPair, HasGate, IsFetAt, AreFetsAt}
+
+pub element_at : {A : Type 0} (xs : List A) (k : ℕ) → k < length xs → (x : A) × (slice_get xs k ≡ Some x)
+element_at [] k lt = absurd (omega (arith, lt))
+element_at (x ∷ xs) zero lt = (x, refl)
+element_at (x ∷ xs) (suc k) lt = element_at xs k (omega (arith, lt))
+
+module _ (plan : Plan) (masks : MaskLists) (nets : Nets) (roots : List Node) (are : AreNetRoots (channel_plane masks) roots) where
+  pub root_cell : (t : ℕ) (root : Node) → slice_get roots t ≡ Some root → IsCellOf masks t root.wire root.x root.y
+  root_cell t root at = record { roots = roots; are = are; root = root; at = at; thing = (are.least t root at).thing; linked = linked_refl (is_link (channel_plane masks)) root }
+
+  pub roots_count : IsNetCount (channel_plane masks) (length roots)
+  roots_count = record { roots = roots; are = are; is = refl }
+
+  pub cell_in : (t line : ℕ) (x y : ℤ) → IsCellOf masks t line x y → t < length roots
+  cell_in t line x y cell = net_below (channel_plane masks) (node_at line x y) t (length roots) cell roots_count
+
+  pub root_least : (t : ℕ) (root : Node) (cell : Point) → slice_get roots t ≡ Some root → cell.x ≡ root.x → cell.y ≡ root.y → IsLeastCellOf masks t cell
+  root_least t root cell at is_x is_y = record {
+    line = root.wire;
+    of = subst (λ (a : ℤ). IsCellOf masks t root.wire a cell.y) (sym is_x) (subst (λ (b : ℤ). IsCellOf masks t root.wire root.x b) (sym is_y) (root_cell t root at));
+    least = λ m x y here less.
+        (are.least t root at).least (node_at m x y) (net_links (channel_plane masks) root (node_at m x y) t (root_cell t root at) here)
+        (ap (λ (a : ℤ). node_cmp (node_at m x y) (node_at root.wire a root.y)) (sym is_x) ∙ ap (λ (b : ℤ). node_cmp (node_at m x y) (node_at root.wire cell.x b)) (sym is_y) ∙ less);
+  }
+
+  -- ---- gates
+
+  pub root_gate : AreGated plan masks → length masks.channels ≡ length plan.fets → nets.wires ≡ masks.wires → (t : ℕ) (root : Node) → slice_get roots t ≡ Some root → HasGate plan nets root
+  root_gate gated each same t root at =
+      let (channel, at_channel, in_channel) = by_wire (slice_get masks.channels root.wire) root.x root.y ((are.least t root at).thing) in
+      let (fet, at_fet) = element_at plan.fets root.wire (omega (arith, each, slice_get_within masks.channels root.wire channel at_channel)) in
+      record { fet = fet; at = at_fet; has = ap (λ (ws : List (List Strip)). is_in_wire (slice_get ws fet.gate) root.x root.y) same ∙ by_test fet at_fet (has_node (wire_plane masks) fet.gate root.x root.y) refl }
+    where
+      by_test : (fet : layers.Fet) → slice_get plan.fets root.wire ≡ Some fet → (b : Bool) → has_node (wire_plane masks) fet.gate root.x root.y ≡ b → has_node (wire_plane masks) fet.gate root.x root.y ≡ true
+      by_test fet at_fet true is = is
+      by_test fet at_fet false is = absurd (gated.each root.wire root.x root.y (record { fet = fet; at = at_fet; channel = (are.least t root at).thing; bare = is }))
+
+  pub all_gates : AreGated plan masks → length masks.channels ≡ length plan.fets → nets.wires ≡ masks.wires → All (HasGate plan nets) roots
+  all_gates gated each same k d lt = root_gate gated each same k (get_or roots k d) (slice_get-get_or roots k d lt)
+
+  -- ---- terminals
+
+  module _ (contacts : List (ℕ × NetId)) (pairs : AreContacts plan masks nets contacts) where
+    pub contact_terminal : (t net : ℕ) → has_contact contacts t net ≡ true → IsTerminalOf plan masks nets t net
+    contact_terminal t net has =
+        let (k, c, lt, is, pass) = Any-from_list_any (λ (c : ℕ × NetId). (c.0 == t) && (c.1.0 == net)) contacts has in
+        let (first, second) = and_parts (c.0 == t) (c.1.0 == net) pass in
+        subst (λ a. IsTerminalOf plan masks nets a net) (eqb-true c.0 t first) (subst (λ b. IsTerminalOf plan masks nets c.0 b) (eqb-true c.1.0 net second)
+        (subst (λ (p : ℕ × NetId). IsTerminalOf plan masks nets p.0 p.1.0) is (pairs.sound k c lt)))
+
+    pub contacts_below : All (λ (c : ℕ × NetId). c.0 < length roots) contacts
+    contacts_below k d lt = let end = pairs.sound k d lt in cell_in (get_or contacts k d).0 end.line end.x end.y end.cell
+
+    module _ (ends : List Ends) (told : AreEndsOf contacts (length roots) ends) where
+      end_at : (t : ℕ) → t < length roots → (e : Ends) × (slice_get ends t ≡ Some e)
+      end_at t lt = element_at ends t (omega (arith, lt, told.each))
+
+      pub bare_is : (t : ℕ) (root : Node) → slice_get roots t ≡ Some root → slice_get ends t ≡ Some Bare → IsBare plan masks nets t
+      bare_is t root at at_e = record { line = root.wire; x = root.x; y = root.y; cell = root_cell t root at; none = λ net end. told.at t Bare at_e net (pairs.whole t net end) }
+
+      pub crowded_is : (t : ℕ) → slice_get ends t ≡ Some Crowded → IsCrowded plan masks nets t
+      crowded_is t at_e = let h = told.at t Crowded at_e in
+          record { a = h.a; b = h.b; c = h.c; first = contact_terminal t h.a h.first; second = contact_terminal t h.b h.second; third = contact_terminal t h.c h.third; rising = h.rising; rising_on = h.rising_on }
+
+      -- a transistor without terminals has no ends
+      not_bare : (t : ℕ) (e : Ends) → slice_get ends t ≡ Some e → IsBare plan masks nets t → e ≡ Bare
+      not_bare t Bare at_e bare = refl
+      not_bare t (One a) at_e bare = absurd (bare.none a.0 (contact_terminal t a.0 ((told.at t (One a) at_e).first)))
+      not_bare t (Two a b) at_e bare = absurd (bare.none a.0 (contact_terminal t a.0 ((told.at t (Two a b) at_e).first)))
+      not_bare t Crowded at_e bare = let h = told.at t Crowded at_e in absurd (bare.none h.a (contact_terminal t h.a h.first))
+
+      pub bare_end : (t : ℕ) → IsBare plan masks nets t → slice_get ends t ≡ Some Bare
+      bare_end t bare = let (e, at_e) = end_at t (cell_in t bare.line bare.x bare.y bare.cell) in at_e ∙ ap (λ (x : Ends). Some x) (not_bare t e at_e bare)
+
+      two_of : {P : Type 0} (p q a b c : ℕ) → (a ≡ p) ⊎ (a ≡ q) → (b ≡ p) ⊎ (b ≡ q) → (c ≡ p) ⊎ (c ≡ q) → a < b → b < c → P
+      two_of p q a b c (inl ea) (inl eb) ec ab bc = absurd (omega (arith, ea, eb, ab))
+      two_of p q a b c (inr ea) (inr eb) ec ab bc = absurd (omega (arith, ea, eb, ab))
+      two_of p q a b c (inl ea) (inr eb) (inl ec) ab bc = absurd (omega (arith, ea, ec, ab, bc))
+      two_of p q a b c (inl ea) (inr eb) (inr ec) ab bc = absurd (omega (arith, eb, ec, bc))
+      two_of p q a b c (inr ea) (inl eb) (inl ec) ab bc = absurd (omega (arith, eb, ec, bc))
+      two_of p q a b c (inr ea) (inl eb) (inr ec) ab bc = absurd (omega (arith, ea, ec, ab, bc))
+
+      crowded_only : (t : ℕ) (e : Ends) → slice_get ends t ≡ Some e → IsCrowded plan masks nets t → e ≡ Crowded
+      crowded_only t Bare at_e h = absurd (told.at t Bare at_e h.a (pairs.whole t h.a h.first))
+      crowded_only t (One a) at_e h =
+          let k = told.at t (One a) at_e in
+          let first = k.only h.a (pairs.whole t h.a h.first) in
+          let second = k.only h.b (pairs.whole t h.b h.second) in
+          let lt = h.rising in
+          absurd (omega (arith, first, second, lt))
+      crowded_only t (Two a b) at_e h =
+          let k = told.at t (Two a b) at_e in
+          two_of a.0 b.0 h.a h.b h.c (k.only h.a (pairs.whole t h.a h.first)) (k.only h.b (pairs.whole t h.b h.second)) (k.only h.c (pairs.whole t h.c h.third)) h.rising h.rising_on
+      crowded_only t Crowded at_e h = refl
+
+      pub crowded_end : (t : ℕ) → IsCrowded plan masks nets t → slice_get ends t ≡ Some Crowded
+      crowded_end t h = let (e, at_e) = end_at t (cell_in t h.first.line h.first.x h.first.y h.first.cell) in at_e ∙ ap (λ (x : Ends). Some x) (crowded_only t e at_e h)
+
+      -- ---- the list
+
+      module _ (gated : AreGated plan masks) (fets : List Fet) (made : AreFetsAt plan nets roots ends (length roots) fets) where
+        by_ends : (t : ℕ) (root : Node) (e : Ends) (fet : Fet) → slice_get roots t ≡ Some root → slice_get ends t ≡ Some e → IsFetAt plan nets root e fet → IsPair e fet.a fet.b → IsTransistor plan masks nets t fet
+        by_ends t root Bare fet at_r at_e is pair = absurd pair
+        by_ends t root Crowded fet at_r at_e is pair = absurd pair
+        by_ends t root (One a) fet at_r at_e is pair =
+            let h = told.at t (One a) at_e in
+            let end = contact_terminal t a.0 h.first in
+            record {
+              kind = record { line = root.wire; x = root.x; y = root.y; fet = is.line; at = is.at; cell = root_cell t root at_r; is = is.kind };
+              gate = record { line = root.wire; x = root.x; y = root.y; fet = is.line; at = is.at; cell = root_cell t root at_r; number = is.gate };
+              a = subst (λ (n : NetId). IsTerminalOf plan masks nets t n.0) (sym pair.0) end;
+              b = subst (λ (n : NetId). IsTerminalOf plan masks nets t n.0) (sym pair.1) end;
+              only = λ net other. inl (h.only net (pairs.whole t net other) ∙ ap (λ (n : NetId). n.0) (sym pair.0));
+              order = let same : fet.a.0 ≡ fet.b.0 = ap (λ (n : NetId). n.0) (pair.0 ∙ sym pair.1) in omega (arith, same);
+            }
+        by_ends t root (Two a b) fet at_r at_e is pair =
+            let h = told.at t (Two a b) at_e in
+            record {
+              kind = record { line = root.wire; x = root.x; y = root.y; fet = is.line; at = is.at; cell = root_cell t root at_r; is = is.kind };
+              gate = record { line = root.wire; x = root.x; y = root.y; fet = is.line; at = is.at; cell = root_cell t root at_r; number = is.gate };
+              a = subst (λ (n : NetId). IsTerminalOf plan masks nets t n.0) (sym pair.0) (contact_terminal t a.0 h.first);
+              b = subst (λ (n : NetId). IsTerminalOf plan masks nets t n.0) (sym pair.1) (contact_terminal t b.0 h.second);
+              only = λ net other. elim (h.only net (pairs.whole t net other)) [
+                | inl one ↦ inl (one ∙ ap (λ (n : NetId). n.0) (sym pair.0))
+                | inr two ↦ inr (two ∙ ap (λ (n : NetId). n.0) (sym pair.1))
+              ];
+              order = let first : fet.a.0 ≡ a.0 = ap (λ (n : NetId). n.0) pair.0 in let second : fet.b.0 ≡ b.0 = ap (λ (n : NetId). n.0) pair.1 in let lt = h.rising in omega (arith, first, second, lt);
+            }
+
+        pub are_transistors : AreTransistors plan masks nets fets
+        are_transistors = record {
+          gated = gated;
+          count = subst (IsNetCount (channel_plane masks)) (sym made.each) roots_count;
+          each = λ t fet at_f.
+              let lt : t < length roots = omega (arith, made.each, slice_get_within fets t fet at_f) in
+              let (root, at_r) = element_at roots t lt in
+              let (e, at_e) = end_at t lt in
+              let is = made.at t root e fet at_r at_e at_f in
+              by_ends t root e fet at_r at_e is is.pair;
+        }

@@ -26,7 +26,7 @@ use Rattle.net_trace.proofs.Rectangles.{rectangle_linked}
 use Rattle.net_trace.proofs.TracedNets.{touch_link}
 use Rattle.net_trace.proofs.Tying.{least_cell}
 use Rattle.net_trace.proofs.VertexFacts.{strip_with, in_region}
-use Rattle.device_extract.specs.declared.contacts.Side.{Side}
+use Rattle.device_extract.specs.declared.sides.Side.{Side}
 use Rattle.device_extract.specs.Channels.{channel_plane}
 use Rattle.device_extract.specs.Transistors.{IsTerminalOf}
 use Rattle.device_extract.specs.Contacts.{strip_shifted, IsStep, IsSideOf, HasSide, AreSides, AreTouched, has_contact, IsContactAt, IsContact, AreContactsAdded, AreContacts}
@@ -74,6 +74,26 @@ strip_one_back nets w right up s x y m n cells here first second =
     strip_one nets w (record { y0 = s.y0 -ℤ up; y1 = s.y1 -ℤ up; x0 = s.x0 -ℤ right; x1 = s.x1 -ℤ right }) (x -ℤ right) (y -ℤ up) m n
     (λ i j in_s. subst (λ (a : ℤ). has_node nets w a j ≡ true) (there_and_back i right) (subst (λ (b : ℤ). has_node nets w ((i +ℤ right) -ℤ right) b ≡ true) (there_and_back j up)
     (cells (i +ℤ right) (j +ℤ up) (sym (back_on right up s i j) ∙ in_s)))) (back_of right up s x y ∙ here) first second
+
+-- ---- one contact
+
+pub none_left : (plane nets : Nets) (l w : ℕ) (x y a b p q : ℤ) → p ≡ a → q ≡ b → has_node plane l p q ≡ false → (has_node plane l a b && has_node nets w x y) ≡ false
+none_left plane nets l w x y a b p q is_p is_q h = ap (λ t. t && has_node nets w x y) (ap (λ (z : ℤ). has_node plane l z b) (sym is_p) ∙ ap (λ (z : ℤ). has_node plane l p z) (sym is_q) ∙ h)
+
+pub none_right : (plane nets : Nets) (l w : ℕ) (x y a b p q : ℤ) → p ≡ x → q ≡ y → has_node nets w p q ≡ false → (has_node plane l a b && has_node nets w x y) ≡ false
+none_right plane nets l w x y a b p q is_p is_q h =
+    ap (λ t. has_node plane l a b && t) (ap (λ (z : ℤ). has_node nets w z y) (sym is_p) ∙ ap (λ (z : ℤ). has_node nets w p z) (sym is_q) ∙ h) ∙ and_none (has_node plane l a b)
+  where
+    and_none : (t : Bool) → (t && false) ≡ false
+    and_none true = refl
+    and_none false = refl
+
+pub contact_here : (plane nets : Nets) (side : Side) (s : Strip) (c : ℕ × NetId) (p q i j : ℤ) → p ≡ s.x0 -ℤ side.right → q ≡ s.y0 -ℤ side.up → i ≡ s.x0 → j ≡ s.y0
+    → IsNetNumber plane (node_at side.line p q) c.0 → IsNetNumber nets (node_at side.diff.0 i j) c.1.0 → IsContactAt plane nets side s.x0 s.y0 c
+contact_here plane nets side s c p q i j is_p is_q is_i is_j cell number = record {
+  cell = subst (λ (a : ℤ). IsNetNumber plane (node_at side.line a (s.y0 -ℤ side.up)) c.0) is_p (subst (λ (b : ℤ). IsNetNumber plane (node_at side.line p b) c.0) is_q cell);
+  number = subst (λ (a : ℤ). IsNetNumber nets (node_at side.diff.0 a s.y0) c.1.0) is_i (subst (λ (b : ℤ). IsNetNumber nets (node_at side.diff.0 i b) c.1.0) is_j number);
+}
 
 -- ---- the contacts of a side
 

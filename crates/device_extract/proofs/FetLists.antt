@@ -3,12 +3,13 @@ use Rattle.std.proofs.Common.{◌≡◌, ℕ, zero, suc, ◌+◌, ◌<◌, ◌�
 use Rattle.std.specs.Option.{option_map}
 use Rattle.std.proofs.lemmas.Bool.{cases_order}
 use Rattle.std.proofs.lemmas.List.{length_push, length-map}
-use Rattle.std.proofs.lemmas.Option.{slice_get_within, slice_get-get_or, slice_get-map}
+use Rattle.std.proofs.lemmas.Option.{slice_get_within, slice_get-get_or, slice_get-map, get_or_from_slice_get}
+use Rattle.std.proofs.lemmas.List.Elements.{All-from_recursion}
 use Rattle.link_classes.proofs.UniqueNumbers.{some_one, no_some}
 use Rattle.switch_net.specs.declared.NetId.{NetId}
 use Rattle.switch_net.specs.declared.Fet.{Fet}
 use Rattle.layer_map.specs.declared.map.FetLine.{FetLine}
-use Rattle.layer_map.specs.Plan.{Plan}
+use Rattle.layer_map.specs.Plan.{Plan, IsKeptMap, IsKeptFet}
 use Rattle.layer_map.specs.Plan as layers
 use Rattle.layer_map.specs.Views.{fet_seen}
 use Rattle.net_trace.specs.declared.node.Node.{Node}
@@ -27,6 +28,12 @@ line_in lines fets k fet is at =
     let lt = slice_get_within fets k fet at in
     let same : length fets ≡ length lines = ap (λ (l : List layers.Fet). length l) (sym is) ∙ length-map lines fet_seen in
     omega (arith, lt, same)
+
+-- what a map keeps of each of its lines of transistors
+pub kept_at : (plan : Plan) (k : ℕ) (fet : layers.Fet) → IsKeptMap plan → slice_get plan.fets k ≡ Some fet → IsKeptFet (length plan.wires) fet
+kept_at plan k fet kept at =
+    subst (IsKeptFet (length plan.wires)) (get_or_from_slice_get plan.fets k fet fet at)
+    (All-from_recursion (IsKeptFet (length plan.wires)) plan.fets kept.fets k fet (slice_get_within plan.fets k fet at))
 
 module _ (plan : Plan) (nets : Nets) (roots : List Node) (ends : List Ends) where
   pub fets_none : (fets : List Fet) → fets ≡ [] → AreFetsAt plan nets roots ends 0 fets

@@ -47,7 +47,7 @@ one_line masks t k m x y i j first second =
     same_wire : (a b : Node) → is_link (channel_plane masks) a b ≡ true → a.wire ≡ b.wire
     same_wire a b is = let (wire, beside) = and_parts (a.wire == b.wire) (is_beside a.x a.y b.x b.y) (plane_step masks a b is).1 in eqb-true a.wire b.wire wire
 
-gate_in : Option layers.Fet → ℕ
+abbrev gate_in : Option layers.Fet → ℕ
 gate_in None = 0
 gate_in (Some fet) = fet.gate
 

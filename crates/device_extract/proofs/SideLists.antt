@@ -9,13 +9,13 @@ use Rattle.std.proofs.lemmas.List.Elements.{All-nil, All-push}
 use Rattle.std.proofs.lemmas.Option.{slice_get_within}
 use Rattle.link_classes.proofs.UniqueNumbers.{some_one, no_some}
 use Rattle.layer_map.specs.Plan as layers
-use Rattle.switch_net.specs.declared.NetId.{NetId}
+use Rattle.layer_map.specs.declared.map.WireId.{WireId}
 use Rattle.mask_region.specs.declared.strips.Strip.{Strip}
 use Rattle.mask_region.specs.Strips.{is_in}
 use Rattle.mask_region.proofs.Within.{or_cases}
 use Rattle.net_trace.specs.Touching.{Nets, is_in_wire, has_node, is_step, is_beside}
 use Rattle.net_trace.proofs.VertexLists.{get_left, get_right, get_append}
-use Rattle.device_extract.specs.declared.contacts.Side.{Side}
+use Rattle.device_extract.specs.declared.sides.Side.{Side}
 use Rattle.device_extract.specs.Contacts.{IsStep, IsSideOf, HasSide, AreSides, AreTouched}
 
 -- ---- steps
@@ -153,4 +153,12 @@ pub touched_is : (channels wires : List (List Strip)) (plane nets : Nets) (side 
 touched_is channels wires plane nets side channel wire shifted region is_plane is_nets at_channel at_wire moved met = record {
   cells = λ x y. met x y ∙ (λ i. (moved x y ∙ ap (λ o. is_in_wire o (x -ℤ side.right) (y -ℤ side.up)) (sym (ap (λ (ws : List (List Strip)). slice_get ws side.line) is_plane ∙ at_channel))) i
       && ap (λ o. is_in_wire o x y) (sym (ap (λ (ws : List (List Strip)). slice_get ws side.diff.0) is_nets ∙ at_wire)) i);
+}
+
+pub side_at : (s : Side) (n : ℕ) (diff : WireId) (right up : ℤ) (d : ℕ) → s ≡ record { line = n; diff = diff; right = right; up = up } → diff.0 ≡ d → IsSideAt n d right up s
+side_at s n diff right up d is same = record {
+  line_is = ap (λ (x : Side). x.line) is;
+  diff_is = ap (λ (x : Side). x.diff.0) is ∙ same;
+  right_is = ap (λ (x : Side). x.right) is;
+  up_is = ap (λ (x : Side). x.up) is;
 }

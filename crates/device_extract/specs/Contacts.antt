@@ -10,7 +10,7 @@ use Rattle.mask_region.specs.Strips.{MaskLists, is_in}
 use Rattle.net_trace.specs.declared.node.Node.{Node}
 use Rattle.net_trace.specs.Touching.{Nets, has_node}
 use Rattle.net_trace.specs.Nets.{node_at, IsNetNumber}
-use Rattle.device_extract.specs.declared.contacts.Side.{Side}
+use Rattle.device_extract.specs.declared.sides.Side.{Side}
 use Rattle.device_extract.specs.declared.terminals.Ends.{Ends}
 use Rattle.device_extract.specs.declared.terminals.Ends.TheVariants.{Bare, One, Two, Crowded}
 use Rattle.device_extract.specs.Transistors.{IsTerminalOf}

@@ -3,25 +3,17 @@
 ghost use Rattle.std.specs.Prelude.{◌≡◌, ◌<◌, ◌&&◌, ◌-ℤ◌, false, None, length, IfOk, OnOk, IfSome};
 ghost use Rattle.net_trace.specs.Touching.{has_node};
 ghost use Rattle.device_extract.specs.Channels.{channel_plane, wire_plane};
-ghost use Rattle.device_extract.specs.Contacts.{AreSides, IsStep, AreTouched, IsContactAt, AreContactsAdded, AreContacts};
+ghost use Rattle.device_extract.specs.Contacts.{IsStep, AreTouched, IsContactAt, AreContactsAdded, AreContacts};
 
+use crate::gates::corner_of;
 use crate::shifts::shifted;
-use layer_map::{LayerMap, WireId};
+use crate::sides::{Side, sides};
+use layer_map::LayerMap;
 use mask_region::{Masks, Region, Strip};
 use net_trace::{Pieces, Traced};
 use plane_geom::Point;
 use std::alloc::{AllocError, Global};
 use switch_net::NetId;
-
-/// One of the four sides of the channel cells of a line: the cells that lie so far to the right and up from them, on the
-/// line's diff wire.
-#[derive(Clone, Copy, Debug, PartialEq, Eq)]
-pub(crate) struct Side {
-    pub line: u32,
-    pub diff: WireId,
-    pub right: i32,
-    pub up: i32,
-}
 
 /// Pairs of a transistor and one of its terminals: each terminal of each transistor is in a pair, maybe in several.
 pub(crate) fn contacts(
@@ -45,33 +37,6 @@ pub(crate) fn contacts(
     Ok(contacts)
 }
 
-/// The four sides of the channel cells of each line.
-fn sides(alloc: Global, map: &LayerMap) -> Result<Vec<Side>, AllocError>
-    ensures { IfOk result (λ v. AreSides map.now.fets (length map.now.fets) v.items) }
-{
-    let mut sides = Vec::new(alloc);
-    for (k, line) in map.fets().iter().enumerate() {
-        sides.push(side_of(k, line.diff, 1, 0))?;
-        sides.push(side_of(k, line.diff, -1, 0))?;
-        sides.push(side_of(k, line.diff, 0, 1))?;
-        sides.push(side_of(k, line.diff, 0, -1))?;
-    }
-    Ok(sides)
-}
-
-/// The side of the line with that index.
-fn side_of(k: usize, diff: WireId, right: i32, up: i32) -> Side
-    requires { k < 8 }
-    ensures { result ≡ record { line = k; diff = diff; right = right; up = up } }
-{
-    Side {
-        line: k as u32,
-        diff,
-        right,
-        up,
-    }
-}
-
 /// The cells of the side.
 fn touched(alloc: Global, masks: &Masks, side: Side) -> Result<Region, AllocError>
     requires line { side.line < length masks.now.channels }
@@ -81,7 +46,7 @@ fn touched(alloc: Global, masks: &Masks, side: Side) -> Result<Region, AllocErro
 {
     let channel = &masks.channels()[side.line as usize];
     let wire = &masks.wires()[side.diff.0 as usize];
-    shifted(alloc, channel, side.right, side.up)?.meet(alloc, wire)
+    shifted(alloc, channel, side)?.meet(alloc, wire)
 }
 
 /// Adds the transistors and nets at the cells of the side. Of each strip of them one cell is enough, since its cells lie
@@ -114,15 +79,19 @@ fn contact_at(
     ensures none { result ≡ None → (has_node pieces.now side.line (strip.now.x0 -ℤ side.right) (strip.now.y0 -ℤ side.up) && has_node traced.now side.diff.0 strip.now.x0 strip.now.y0) ≡ false }
     ensures some { IfSome result (λ contact. IsContactAt pieces.now traced.now side strip.now.x0 strip.now.y0 contact) }
 {
-    let cell = Point {
-        x: strip.x0 as i64,
-        y: strip.y0 as i64,
-    };
-    let channel = Point {
-        x: cell.x - side.right as i64,
-        y: cell.y - side.up as i64,
-    };
-    let fet = pieces.piece_at(side.line, channel)?;
+    let cell = corner_of(strip);
+    let fet = pieces.piece_at(side.line, channel_at(strip, side))?;
     let net = traced.net_at(side.diff, cell)?;
     Some((fet, net))
+}
+
+/// The channel cell from which the least cell of the strip lies so far.
+fn channel_at(strip: &Strip, side: Side) -> Point
+    ensures x { result.x ≡ strip.now.x0 -ℤ side.right }
+    ensures y { result.y ≡ strip.now.y0 -ℤ side.up }
+{
+    Point {
+        x: strip.x0 as i64 - side.right as i64,
+        y: strip.y0 as i64 - side.up as i64,
+    }
 }

@@ -38,7 +38,7 @@ fn least_cell(region: &Region) -> Option<Point>
 }
 
 /// The least cell of a strip.
-fn corner_of(strip: &Strip) -> Point
+pub(crate) fn corner_of(strip: &Strip) -> Point
     ensures x { result.x ≡ strip.now.x0 }
     ensures y { result.y ≡ strip.now.y0 }
 {

@@ -18,6 +18,7 @@ mod gates;
 mod laws;
 mod refusal;
 mod shifts;
+mod sides;
 mod terminals;
 
 pub use extraction::extract;

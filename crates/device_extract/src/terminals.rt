@@ -1,6 +1,6 @@
 //! The terminals of transistors.
 
-ghost use Rattle.std.specs.Prelude.{◌≡◌, ◌<◌, ◌||◌, ◌==◌, ℕ, Bool, IfOk, IfSome, length};
+ghost use Rattle.std.specs.Prelude.{◌≡◌, ◌<◌, ◌||◌, ◌==◌, ℕ, Bool, IfOk, Some, length};
 ghost use Rattle.std.specs.List.{All};
 ghost use Rattle.device_extract.specs.Contacts.{AreEnds, AreEndsOf, IsPair};
 
@@ -27,12 +27,15 @@ impl Ends {
             Ends::One(a) if a.0 < net.0 => Ends::Two(a, net),
             Ends::One(a) => Ends::Two(net, a),
             Ends::Two(a, b) if a == net || b == net => self,
-            Ends::Two(_, _) | Ends::Crowded => Ends::Crowded,
+            Ends::Two(_, _) => Ends::Crowded,
+            Ends::Crowded => self,
         }
     }
 
     /// Both terminals: the smaller net first, or one net alone. `None` where there is none, or where there are more.
-    pub(crate) fn pair(self) -> Option<(NetId, NetId)> {
+    pub(crate) fn pair(self) -> Option<(NetId, NetId)>
+        ensures { (a b : NetId) → IsPair self a b → result ≡ Some (a, b) }
+    {
         match self {
             Ends::One(a) => Some((a, a)),
             Ends::Two(a, b) => Some((a, b)),

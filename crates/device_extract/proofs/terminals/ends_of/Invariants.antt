@@ -3,4 +3,4 @@ use Rattle.device_extract.specs.Contacts.{AreEndsOf}
 use Rattle.device_extract.proofs.terminals.ends_of.Given as goal
 
 abbrev pub invariant-loop-fet : goal.invariant-loop-fet
-invariant-loop-fet l = AreEndsOf (take l.fet-index l.fet-items) l.count l.ends.items
+invariant-loop-fet l = AreEndsOf (take l.fet-index l.contacts) l.count l.ends.items

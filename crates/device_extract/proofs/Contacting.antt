@@ -1,6 +1,6 @@
 -- Transistors and nets that touch at the cells of a side.
 use Rattle.std.proofs.Common.{◌≡◌, ℕ, ◌+◌, ◌<◌, ◌≤◌, Bool, true, false, not, ◌&&◌, ◌||◌, ◌==◌, List, [], ◌∷◌, ◌++◌, length, refl, sym, ap, ◌∙◌, subst, arith, inl, inr, slice_get, get_or, Some, append_assoc}
-use Rattle.std.specs.Prelude.{ℤ, ◌+ℤ◌, ◌-ℤ◌, int_lt}
+use Rattle.std.specs.Prelude.{ℤ, ◌+ℤ◌, ◌-ℤ◌, pos, int_lt}
 use Rattle.std.specs.List.{All, list_any}
 use Rattle.std.proofs.lemmas.Bool.{cases_order, and_parts, and_from, eqb-true, eq-eqb, or_left}
 use Rattle.std.proofs.lemmas.Int.{ints}
@@ -12,7 +12,7 @@ use Rattle.link_classes.proofs.Chains.{linked_sym, linked_map, linked_touch}
 use Rattle.link_classes.proofs.UniqueNumbers.{some_one}
 use Rattle.plane_geom.specs.Cells.{is_between}
 use Rattle.switch_net.specs.declared.NetId.{NetId}
-use Rattle.layer_map.specs.Plan.{Plan}
+use Rattle.layer_map.specs.Plan.{Plan, IsKeptMap}
 use Rattle.layer_map.specs.Plan as layers
 use Rattle.mask_region.specs.declared.strips.Strip.{Strip}
 use Rattle.mask_region.specs.Strips.{MaskLists, is_in_strip, is_in, Banded}
@@ -30,6 +30,7 @@ use Rattle.device_extract.specs.declared.sides.Side.{Side}
 use Rattle.device_extract.specs.Channels.{channel_plane}
 use Rattle.device_extract.specs.Transistors.{IsTerminalOf}
 use Rattle.device_extract.specs.Contacts.{strip_shifted, IsStep, IsSideOf, HasSide, AreSides, AreTouched, has_contact, IsContactAt, IsContact, AreContactsAdded, AreContacts}
+use Rattle.device_extract.proofs.FetLists.{kept_at}
 use Rattle.device_extract.proofs.SideLists.{step_between, step_beside}
 
 -- ---- strips of nodes
@@ -159,6 +160,9 @@ module _ (plane nets : Nets) (side : Side) (strips : List Strip) where
 
 -- ---- the contacts of all sides
 
+abbrev pub no_side : Side
+no_side = record { line = 0; diff = record { 0 = 0 }; right = pos 0; up = pos 0 }
+
 -- The first sides have given their contacts.
 pub record AreContactsTo (plan : Plan) (masks : MaskLists) (nets : Nets) (sides : List Side) (n : ℕ) (contacts : List (ℕ × NetId)) : Type 0 where
   pub sound : All (λ c. IsTerminalOf plan masks nets c.0 c.1.0) contacts
@@ -225,3 +229,7 @@ module _ (plan : Plan) (masks : MaskLists) (nets : Nets) (sides : List Side) whe
         subst (λ (l : ℕ). IsNetNumber (channel_plane masks) (node_at l (end.i -ℤ side.side.right) (end.j -ℤ side.side.up)) t) (sym side.line_is)
         (subst (λ (a : ℤ). IsNetNumber (channel_plane masks) (node_at end.line a (end.j -ℤ side.side.up)) t) (step_back end.x end.i ∙ ap (λ (r : ℤ). end.i -ℤ r) (sym side.right_is))
         (subst (λ (b : ℤ). IsNetNumber (channel_plane masks) (node_at end.line end.x b) t) (step_back end.y end.j ∙ ap (λ (r : ℤ). end.j -ℤ r) (sym side.up_is)) end.cell))
+
+-- the diff wire of a side is one of the map's wires
+pub side_within : (plan : Plan) (masks : MaskLists) (s : Side) → IsKeptMap plan → IsSideOf plan.fets s → length masks.wires ≡ length plan.wires → s.diff.0 < length masks.wires
+side_within plan masks s kept of same = let diff = (kept_at plan s.line of.fet kept of.at).diff in let is = of.diff in omega (arith, diff, is, same)

@@ -1,7 +1,7 @@
 -- The terminals of transistors, pair by pair.
 use Rattle.std.proofs.Common.{◌≡◌, ◌≢◌, ℕ, zero, suc, ◌+◌, ◌<◌, ◌≤◌, ◌⊎◌, Bool, true, false, ◌&&◌, ◌||◌, ◌==◌, List, [], ◌∷◌, ◌++◌, length, take, refl, sym, ap, ◌∙◌, subst, arith, inl, inr, slice_get, slice_set, get_or, Some}
 use Rattle.std.specs.List.{All, list_any}
-use Rattle.std.proofs.lemmas.Bool.{cases_order, and_parts, and_from, eqb-true, eq-eqb}
+use Rattle.std.proofs.lemmas.Bool.{cases_order, and_parts, and_from, eqb-true, eq-eqb, or_left}
 use Rattle.std.proofs.lemmas.List.{length-set, take_more, take_all}
 use Rattle.std.proofs.lemmas.List.Folds.{list_any-append}
 use Rattle.std.proofs.lemmas.Option.{slice_get_within, slice_get-get_or, get_or_from_slice_get}
@@ -9,6 +9,7 @@ use Rattle.link_classes.proofs.UniqueNumbers.{some_one, no_some}
 use Rattle.switch_net.specs.declared.NetId.{NetId}
 use Rattle.mask_region.proofs.Within.{or_cases}
 use Rattle.net_trace.proofs.Filling.{get_set}
+use Rattle.net_trace.proofs.Lists.{not_both_ways}
 use Rattle.device_extract.specs.declared.terminals.Ends.{Ends}
 use Rattle.device_extract.specs.declared.terminals.Ends.TheVariants.{Bare, One, Two, Crowded}
 use Rattle.device_extract.specs.Contacts.{has_contact, HasOne, HasTwo, HasThree, AreEnds, AreEndsOf}
@@ -60,6 +61,12 @@ module _ (has : ℕ → Bool) (net : ℕ) where
       | inr (inr above) ↦ record { a = a; b = b; c = net; first = old a h.first; second = old b h.second; third = new net refl; rising = h.rising; rising_on = above }
     ]
   ]
+
+  pub ends_other : (a b : ℕ) → ((a == net) || (b == net)) ≡ false → HasTwo has a b → HasThree (λ n. has n || (net == n))
+  ends_other a b none h = ends_third a b (λ e. not_both_ways ((a == net) || (b == net)) (or_left (a == net) (b == net) (eq-eqb a net e)) none) (λ e. not_both_ways ((a == net) || (b == net)) (more_new (a == net) (b == net) (eq-eqb b net e)) none) h
+
+  pub ends_either : (a b : ℕ) → ((a == net) || (b == net)) ≡ true → HasTwo has a b → HasTwo (λ n. has n || (net == n)) a b
+  ends_either a b one h = ends_known a b (elim (or_cases (a == net) (b == net) one) [ inl e ↦ inl (eqb-true a net e) | inr e ↦ inr (eqb-true b net e) ]) h
 
   pub ends_crowded : HasThree has → HasThree (λ n. has n || (net == n))
   ends_crowded h = record { a = h.a; b = h.b; c = h.c; first = old h.a h.first; second = old h.b h.second; third = old h.c h.third; rising = h.rising; rising_on = h.rising_on }

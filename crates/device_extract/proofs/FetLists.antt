@@ -1,11 +1,13 @@
 -- The list of transistors, one by one.
-use Rattle.std.proofs.Common.{◌≡◌, ℕ, zero, suc, ◌+◌, ◌<◌, ◌≤◌, true, List, [], ◌∷◌, ◌++◌, length, map, refl, sym, ap, ◌∙◌, subst, arith, inl, inr, slice_get, get_or, Some}
+use Rattle.std.proofs.Common.{◌≡◌, ℕ, zero, suc, ◌+◌, ◌<◌, ◌≤◌, true, List, [], ◌∷◌, ◌++◌, length, map, refl, sym, ap, ◌∙◌, subst, arith, inl, inr, slice_get, get_or, Some, Option}
+use Rattle.std.specs.Prelude.{ℤ, IsSome, MatchOption}
 use Rattle.std.specs.Option.{option_map}
 use Rattle.std.proofs.lemmas.Bool.{cases_order}
 use Rattle.std.proofs.lemmas.List.{length_push, length-map}
 use Rattle.std.proofs.lemmas.Option.{slice_get_within, slice_get-get_or, slice_get-map, get_or_from_slice_get}
 use Rattle.std.proofs.lemmas.List.Elements.{All-from_recursion}
 use Rattle.link_classes.proofs.UniqueNumbers.{some_one, no_some}
+use Rattle.plane_geom.specs.declared.shapes.Point.{Point}
 use Rattle.switch_net.specs.declared.NetId.{NetId}
 use Rattle.switch_net.specs.declared.Fet.{Fet}
 use Rattle.layer_map.specs.declared.map.FetLine.{FetLine}
@@ -14,9 +16,10 @@ use Rattle.layer_map.specs.Plan as layers
 use Rattle.layer_map.specs.Views.{fet_seen}
 use Rattle.net_trace.specs.declared.node.Node.{Node}
 use Rattle.net_trace.specs.Touching.{Nets}
+use Rattle.net_trace.specs.Nets.{node_at, IsNetNumber}
 use Rattle.net_trace.proofs.VertexLists.{get_append}
 use Rattle.device_extract.specs.declared.terminals.Ends.{Ends}
-use Rattle.device_extract.specs.Contacts.{IsFetAt, AreFetsAt}
+use Rattle.device_extract.specs.Contacts.{IsPair, IsFetAt, AreFetsAt}
 
 -- the line with this index, as the map is seen
 pub line_at : (lines : List FetLine) (fets : List layers.Fet) (k : ℕ) (line d : FetLine) → map fet_seen lines ≡ fets → k < length lines → line ≡ get_or lines k d → slice_get fets k ≡ Some (fet_seen line)
@@ -34,6 +37,25 @@ pub kept_at : (plan : Plan) (k : ℕ) (fet : layers.Fet) → IsKeptMap plan → 
 kept_at plan k fet kept at =
     subst (IsKeptFet (length plan.wires)) (get_or_from_slice_get plan.fets k fet fet at)
     (All-from_recursion (IsKeptFet (length plan.wires)) plan.fets kept.fets k fet (slice_get_within plan.fets k fet at))
+
+pub some_of : {A : Type 0} (o : Option A) (x : A) → o ≡ Some x → IsSome o
+some_of o x is = subst IsSome (sym is) refl
+
+pub some_net : (o : Option NetId) (gate : NetId) (N : Type 0) (P : NetId → Type 0) → MatchOption o N P → o ≡ Some gate → P gate
+some_net o gate N P h is = subst (λ x. MatchOption x N P) is h
+
+-- the transistor, from its parts
+pub fet_here : (plan : Plan) (nets : Nets) (root : Node) (ends : Ends) (line : layers.Fet) (cell : Point) (gate a b : NetId) (pair : NetId × NetId) → slice_get plan.fets root.wire ≡ Some line → cell.x ≡ root.x → cell.y ≡ root.y
+    → IsNetNumber nets (node_at line.gate cell.x cell.y) gate.0 → IsPair ends a b → Some (a, b) ≡ Some pair → IsFetAt plan nets root ends (record { kind = line.kind; gate = gate; a = pair.0; b = pair.1 })
+fet_here plan nets root ends line cell gate a b pair at is_x is_y number is same =
+    let one : (a, b) ≡ pair = some_one (a, b) pair same in
+    record {
+      line = line;
+      at = at;
+      kind = refl;
+      gate = subst (λ (x : ℤ). IsNetNumber nets (node_at line.gate x root.y) gate.0) is_x (subst (λ (y : ℤ). IsNetNumber nets (node_at line.gate cell.x y) gate.0) is_y number);
+      pair = subst (λ (p : NetId × NetId). IsPair ends p.0 p.1) one is;
+    }
 
 module _ (plan : Plan) (nets : Nets) (roots : List Node) (ends : List Ends) where
   pub fets_none : (fets : List Fet) → fets ≡ [] → AreFetsAt plan nets roots ends 0 fets

@@ -6,3 +6,4 @@ pub mod EndLists
 pub mod FetLists
 pub mod Listing
 pub mod OneList
+pub mod Extracting

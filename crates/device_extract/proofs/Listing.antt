@@ -1,11 +1,13 @@
 -- What the least cells and the ends of transistors say of the layout.
-use Rattle.std.proofs.Common.{◌≡◌, ℕ, zero, suc, ◌+◌, ◌<◌, ◌≤◌, ◌⊎◌, Bool, true, false, ◌&&◌, ◌==◌, List, [], ◌∷◌, length, refl, sym, ap, ◌∙◌, subst, arith, inl, inr, slice_get, get_or, Some, Option, None}
+use Rattle.std.proofs.Common.{◌≡◌, ℕ, zero, suc, cond, ◌+◌, ◌<◌, ◌≤◌, ◌⊎◌, Bool, true, false, ◌&&◌, ◌==◌, List, [], ◌∷◌, length, refl, sym, ap, ◌∙◌, subst, arith, inl, inr, slice_get, get_or, Some, Option, None}
 use Rattle.std.specs.Prelude.{ℤ}
-use Rattle.std.specs.List.{All}
+use Rattle.std.specs.List.{All, position, position_from}
+use Rattle.std.proofs.lemmas.Iterator.Adapters.{position_from-zero}
+use Rattle.std.proofs.lemmas.List.Quantifiers.{position-Some}
 use Rattle.std.specs.declared.cmp.Ordering.TheVariants.{Less}
 use Rattle.std.proofs.lemmas.Bool.{and_parts, eqb-true}
 use Rattle.std.proofs.lemmas.List.Folds.{Any-from_list_any}
-use Rattle.std.proofs.lemmas.Option.{slice_get_within, slice_get-get_or, slice_get_read}
+use Rattle.std.proofs.lemmas.Option.{slice_get_within, slice_get-get_or, get_or_from_slice_get}
 use Rattle.link_classes.specs.Linked.{Linked}
 use Rattle.link_classes.proofs.Chains.{linked_refl, linked_sym}
 use Rattle.link_classes.proofs.UniqueNumbers.{some_one, no_some}
@@ -19,6 +21,7 @@ use Rattle.mask_region.specs.Strips.{MaskLists}
 use Rattle.net_trace.specs.declared.node.Node.{Node}
 use Rattle.net_trace.specs.Touching.{Nets, is_in_wire, has_node}
 use Rattle.net_trace.specs.Nets.{node_cmp, node_at, is_link, AreNetRoots, IsNetNumber, IsNetCount}
+use Rattle.net_trace.proofs.Lists.{not_both_ways}
 use Rattle.net_trace.proofs.NetNumbers.{net_links, net_below}
 use Rattle.net_trace.proofs.VertexFacts.{by_wire}
 use Rattle.device_extract.specs.declared.terminals.Ends.{Ends}
@@ -26,12 +29,57 @@ use Rattle.device_extract.specs.declared.terminals.Ends.TheVariants.{Bare, One, 
 use Rattle.device_extract.specs.Channels.{channel_plane, wire_plane, IsCellOf, IsLeastCellOf, IsUngated, AreGated}
 use Rattle.device_extract.specs.Transistors.{IsKindOf, IsGateOf, IsTerminalOf, IsTransistor, AreTransistors}
 use Rattle.device_extract.specs.Refusals.{IsBare, IsCrowded, IsFirstBare, IsFirstCrowded}
-use Rattle.device_extract.specs.Contacts.{has_contact, AreContacts, AreEnds, AreEndsOf, IsPair, HasPair, HasGate, IsFetAt, AreFetsAt}
+use Rattle.device_extract.specs.Contacts.{has_contact, AreContacts, AreEnds, AreEndsOf, IsPair, is_bare, is_crowded, HasPair, HasGate, IsFetAt, AreFetsAt}
 
 pub element_at : {A : Type 0} (xs : List A) (k : ℕ) → k < length xs → (x : A) × (slice_get xs k ≡ Some x)
 element_at [] k lt = absurd (omega (arith, lt))
 element_at (x ∷ xs) zero lt = (x, refl)
 element_at (x ∷ xs) (suc k) lt = element_at xs k (omega (arith, lt))
+
+-- no element passes where none is found
+module _ {A : Type 0} (p : A → Bool) where
+  none_from : (i : ℕ) (xs : List A) (k : ℕ) (x : A) → slice_get xs k ≡ Some x → p x ≡ true → position_from p i xs ≡ None → ⊥
+  none_from i [] k x at is none = no_some x at
+  none_from i (y ∷ ys) zero x at is none =
+      let same : p y ≡ true = ap p (some_one y x at) ∙ is in
+      let found : Some i ≡ None = sym (ap (λ b. cond b (Some i) (position_from p (i + 1) ys)) same) ∙ none in
+      let no : ⊥ = cc in no
+  none_from i (y ∷ ys) (suc k) x at is none = by_test (none_from (i + 1) ys k x at is) (p y) refl
+    where
+      by_test : (position_from p (i + 1) ys ≡ None → ⊥) → (b : Bool) → p y ≡ b → ⊥
+      by_test rest true here = let found : Some i ≡ None = sym (ap (λ b. cond b (Some i) (position_from p (i + 1) ys)) here) ∙ none in let no : ⊥ = cc in no
+      by_test rest false here = rest (sym (ap (λ b. cond b (Some i) (position_from p (i + 1) ys)) here) ∙ none)
+
+  pub all_pass : (xs : List A) (k : ℕ) (x : A) → slice_get xs k ≡ Some x → position p xs ≡ None → p x ≡ false
+  all_pass xs k x at none = by_test (p x) refl
+    where
+      by_test : (b : Bool) → p x ≡ b → p x ≡ false
+      by_test false is = is
+      by_test true is = absurd (none_from 0 xs k x at is (sym (position_from-zero p xs) ∙ none))
+
+bare_test : (e : Ends) → is_bare e ≡ true → e ≡ Bare
+bare_test Bare h = refl
+bare_test (One a) h = let no : ⊥ = cc in absurd no
+bare_test (Two a b) h = let no : ⊥ = cc in absurd no
+bare_test Crowded h = let no : ⊥ = cc in absurd no
+
+crowded_test : (e : Ends) → is_crowded e ≡ true → e ≡ Crowded
+crowded_test Bare h = let no : ⊥ = cc in absurd no
+crowded_test (One a) h = let no : ⊥ = cc in absurd no
+crowded_test (Two a b) h = let no : ⊥ = cc in absurd no
+crowded_test Crowded h = refl
+
+-- ends that are neither are a pair
+pub pair_of : (e : Ends) → is_bare e ≡ false → is_crowded e ≡ false → HasPair e
+pair_of Bare h k = let no : ⊥ = cc in absurd no
+pair_of (One a) h k = record { a = a; b = a; is = (refl, refl) }
+pair_of (Two a b) h k = record { a = a; b = b; is = (refl, refl) }
+pair_of Crowded h k = let no : ⊥ = cc in absurd no
+
+pub all_pairs : (ends : List Ends) → position is_bare ends ≡ None → position is_crowded ends ≡ None → All HasPair ends
+all_pairs ends no_bare no_crowded k d lt =
+    let at = slice_get-get_or ends k d lt in
+    pair_of (get_or ends k d) (all_pass is_bare ends k (get_or ends k d) at no_bare) (all_pass is_crowded ends k (get_or ends k d) at no_crowded)
 
 module _ (plan : Plan) (masks : MaskLists) (nets : Nets) (roots : List Node) (are : AreNetRoots (channel_plane masks) roots) where
   pub root_cell : (t : ℕ) (root : Node) → slice_get roots t ≡ Some root → IsCellOf masks t root.wire root.x root.y
@@ -124,6 +172,34 @@ module _ (plan : Plan) (masks : MaskLists) (nets : Nets) (roots : List Node) (ar
 
       pub crowded_end : (t : ℕ) → IsCrowded plan masks nets t → slice_get ends t ≡ Some Crowded
       crowded_end t h = let (e, at_e) = end_at t (cell_in t h.first.line h.first.x h.first.y h.first.cell) in at_e ∙ ap (λ (x : Ends). Some x) (crowded_only t e at_e h)
+
+      -- ---- the first of them
+
+      pub first_bare : AreGated plan masks → (t : ℕ) (root : Node) (cell : Point) → slice_get roots t ≡ Some root → cell.x ≡ root.x → cell.y ≡ root.y → position is_bare ends ≡ Some t → IsFirstBare plan masks nets cell
+      first_bare gated t root cell at is_x is_y found =
+          let (lt, pass, before) = position-Some is_bare ends t Bare found in
+          record {
+            gated = gated;
+            t = t;
+            is = bare_is t root at (slice_get-get_or ends t Bare lt ∙ ap (λ (e : Ends). Some e) (bare_test (get_or ends t Bare) pass));
+            first = λ s less bare. not_both_ways (is_bare (get_or ends s Bare)) (ap is_bare (get_or_from_slice_get ends s Bare Bare (bare_end s bare))) (before s less);
+            least = root_least t root cell at is_x is_y;
+          }
+
+      pub none_bare : position is_bare ends ≡ None → (s : ℕ) → IsBare plan masks nets s → ⊥
+      none_bare none s bare = not_both_ways (is_bare Bare) refl (all_pass is_bare ends s Bare (bare_end s bare) none)
+
+      pub first_crowded : AreGated plan masks → position is_bare ends ≡ None → (t : ℕ) (root : Node) (cell : Point) → slice_get roots t ≡ Some root → cell.x ≡ root.x → cell.y ≡ root.y → position is_crowded ends ≡ Some t → IsFirstCrowded plan masks nets cell
+      first_crowded gated none t root cell at is_x is_y found =
+          let (lt, pass, before) = position-Some is_crowded ends t Bare found in
+          record {
+            gated = gated;
+            ended = none_bare none;
+            t = t;
+            is = crowded_is t (slice_get-get_or ends t Bare lt ∙ ap (λ (e : Ends). Some e) (crowded_test (get_or ends t Bare) pass));
+            first = λ s less crowded. not_both_ways (is_crowded (get_or ends s Bare)) (ap is_crowded (get_or_from_slice_get ends s Crowded Bare (crowded_end s crowded))) (before s less);
+            least = root_least t root cell at is_x is_y;
+          }
 
       -- ---- the list
 

@@ -1,5 +1,5 @@
 -- The terminals of transistors as pairs, and how the list of transistors is made of them. No promise cites these words.
-use Rattle.std.specs.Prelude.{◌≡◌, ℕ, ◌+◌, ◌<◌, ◌⊎◌, ◌==◌, ◌&&◌, ℤ, pos, neg_ℤ, ◌+ℤ◌, ◌-ℤ◌, Bool, true, List, [], ◌∷◌, ◌++◌, length, Some, slice_get}
+use Rattle.std.specs.Prelude.{◌≡◌, ℕ, ◌+◌, ◌<◌, ◌⊎◌, ◌==◌, ◌&&◌, ℤ, pos, neg_ℤ, ◌+ℤ◌, ◌-ℤ◌, Bool, true, false, List, [], ◌∷◌, ◌++◌, length, Some, slice_get}
 use Rattle.std.specs.List.{All, list_any}
 use Rattle.switch_net.specs.declared.NetId.{NetId}
 use Rattle.switch_net.specs.declared.Fet.{Fet}
@@ -110,6 +110,14 @@ AreEnds has Bare = (n : ℕ) → has n ≡ true → ⊥
 AreEnds has (One a) = HasOne has a.0
 AreEnds has (Two a b) = HasTwo has a.0 b.0
 AreEnds has Crowded = HasThree has
+
+abbrev pub is_bare : Ends → Bool
+is_bare Bare = true
+is_bare _ = false
+
+abbrev pub is_crowded : Ends → Bool
+is_crowded Crowded = true
+is_crowded _ = false
 
 -- Each transistor has the ends that the pairs give it.
 pub record AreEndsOf (contacts : List (ℕ × NetId)) (count : ℕ) (ends : List Ends) : Type 0 where

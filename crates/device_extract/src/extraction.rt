@@ -9,7 +9,7 @@ use crate::contacts::contacts;
 use crate::fets::{cell_of, fets};
 use crate::gates::first_ungated;
 use crate::refusal::DeviceRefusal;
-use crate::terminals::ends_of;
+use crate::terminals::{ends_of, first_bare, first_crowded};
 use layer_map::LayerMap;
 use mask_region::Masks;
 use net_trace::{Traced, pieces_of};
@@ -44,13 +44,14 @@ pub fn extract(
     let roots = pieces.roots();
     let contacts = contacts(alloc, masks, map, traced, &pieces)?;
     let ends = ends_of(alloc, roots.len(), contacts.as_slice())?;
-    if let Some(t) = ends.iter().position(|ends| ends.is_bare()) {
+    let ends = ends.as_slice();
+    if let Some(t) = first_bare(ends) {
         return Err(DeviceRefusal::NoTerminal(cell_of(&roots[t])));
     }
-    if let Some(t) = ends.iter().position(|ends| ends.is_crowded()) {
+    if let Some(t) = first_crowded(ends) {
         return Err(DeviceRefusal::ManyTerminals(cell_of(&roots[t])));
     }
-    let fets = fets(alloc, map, traced, roots, ends.as_slice())?;
+    let fets = fets(alloc, map, traced, roots, ends)?;
     if fets.len() > MOST_FETS {
         return Err(DeviceRefusal::TooManyFets);
     }

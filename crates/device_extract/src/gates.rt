@@ -1,6 +1,6 @@
 //! Channel cells with no gate.
 
-ghost use Rattle.std.specs.Prelude.{◌≡◌, ℤ, false, length, IfOk, MatchOption};
+ghost use Rattle.std.specs.Prelude.{◌≡◌, ◌≤◌, ℤ, false, length, IfOk, MatchOption};
 ghost use Rattle.mask_region.specs.Strips.{is_in};
 ghost use Rattle.device_extract.specs.Channels.{AreGated, IsFirstUngated, IsLeastIn};
 
@@ -17,7 +17,8 @@ pub(crate) fn first_ungated(
 ) -> Result<Option<Point>, AllocError>
     requires wires { length masks.now.wires ≡ length map.now.wires }
     requires channels { length masks.now.channels ≡ length map.now.fets }
-    ensures { IfOk result (λ first. MatchOption first (AreGated map.now masks.now) (IsFirstUngated map.now masks.now)) }
+    ensures few { length map.now.fets ≤ 8 }
+    ensures first { IfOk result (λ first. MatchOption first (AreGated map.now masks.now) (IsFirstUngated map.now masks.now)) }
 {
     for (k, line) in map.fets().iter().enumerate() {
         let gate = &masks.wires()[line.gate.0 as usize];

@@ -1,6 +1,7 @@
 //! The sides of channel cells.
 
 ghost use Rattle.std.specs.Prelude.{◌≡◌, ◌<◌, length, IfOk};
+ghost use Rattle.layer_map.specs.Plan.{IsKeptMap};
 ghost use Rattle.device_extract.specs.Contacts.{AreSides};
 
 use layer_map::{LayerMap, WireId};
@@ -18,7 +19,8 @@ pub(crate) struct Side {
 
 /// The four sides of the channel cells of each line.
 pub(crate) fn sides(alloc: Global, map: &LayerMap) -> Result<Vec<Side>, AllocError>
-    ensures { IfOk result (λ v. AreSides map.now.fets (length map.now.fets) v.items) }
+    ensures sides { IfOk result (λ v. AreSides map.now.fets (length map.now.fets) v.items) }
+    ensures kept { IsKeptMap map.now }
 {
     let mut sides = Vec::new(alloc);
     for (k, line) in map.fets().iter().enumerate() {

@@ -1,8 +1,8 @@
 //! The terminals of transistors.
 
 ghost use Rattle.std.specs.Prelude.{◌≡◌, ◌<◌, ◌||◌, ◌==◌, ℕ, Bool, IfOk, Some, length};
-ghost use Rattle.std.specs.List.{All};
-ghost use Rattle.device_extract.specs.Contacts.{AreEnds, AreEndsOf, IsPair};
+ghost use Rattle.std.specs.List.{All, position};
+ghost use Rattle.device_extract.specs.Contacts.{AreEnds, AreEndsOf, IsPair, is_bare, is_crowded};
 
 use std::alloc::{AllocError, Global};
 use switch_net::NetId;
@@ -26,8 +26,13 @@ impl Ends {
             Ends::One(a) if a == net => self,
             Ends::One(a) if a.0 < net.0 => Ends::Two(a, net),
             Ends::One(a) => Ends::Two(net, a),
-            Ends::Two(a, b) if a == net || b == net => self,
-            Ends::Two(_, _) => Ends::Crowded,
+            Ends::Two(a, b) => {
+                if is_either(net, a, b) {
+                    self
+                } else {
+                    Ends::Crowded
+                }
+            }
             Ends::Crowded => self,
         }
     }
@@ -43,19 +48,32 @@ impl Ends {
         }
     }
 
-    pub(crate) fn is_bare(&self) -> bool {
+    /// Whether there is no terminal.
+    fn is_bare(&self) -> bool
+        ensures { result ≡ is_bare self.now }
+    {
         match self {
             Ends::Bare => true,
             _ => false,
         }
     }
 
-    pub(crate) fn is_crowded(&self) -> bool {
+    /// Whether there are more than two terminals.
+    fn is_crowded(&self) -> bool
+        ensures { result ≡ is_crowded self.now }
+    {
         match self {
             Ends::Crowded => true,
             _ => false,
         }
     }
+}
+
+/// Whether the net is one of the two.
+fn is_either(net: NetId, a: NetId, b: NetId) -> bool
+    ensures { result ≡ ((a.0 == net.0) || (b.0 == net.0)) }
+{
+    a == net || b == net
 }
 
 /// The terminals of each transistor, from pairs of a transistor and a terminal of it.
@@ -72,4 +90,18 @@ pub(crate) fn ends_of(
         ends[*fet] = ends[*fet].with(*net);
     }
     Ok(ends)
+}
+
+/// The first transistor with no terminal.
+pub(crate) fn first_bare(ends: &[Ends]) -> Option<usize>
+    ensures { result ≡ position is_bare ends.now }
+{
+    ends.iter().position(|ends| ends.is_bare())
+}
+
+/// The first transistor with more than two terminals.
+pub(crate) fn first_crowded(ends: &[Ends]) -> Option<usize>
+    ensures { result ≡ position is_crowded ends.now }
+{
+    ends.iter().position(|ends| ends.is_crowded())
 }

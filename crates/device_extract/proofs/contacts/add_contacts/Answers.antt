@@ -1,4 +1,4 @@
-use Rattle.std.proofs.Common.{◌≡◌, ap, sym, ◌∙◌, subst, arith, length, true}
+use Rattle.std.proofs.Common.{ap, sym, ◌∙◌, subst, refl}
 use Rattle.std.proofs.lemmas.Bool.{and_from}
 use Rattle.std.proofs.lemmas.Option.{slice_get-get_or}
 use Rattle.mask_region.specs.Strips.{Banded}
@@ -18,7 +18,7 @@ loop-strip-preserved c =
           c.args.contacts.now.items c.loop-strip.contacts.items c.match-contact_at.contacts.items c.loop-strip.invariant w.in-Some.ensures.some (ap (λ v. v.items) w.contacts-is ∙ w.in_ok-push.ensures.items)
       | in_default w ↦
           let nodes = corner_nodes c.args.pieces.now c.args.traced.now c.args.side c.strips-strip-items.result.now touched banded c.loop-strip.strip-index _ at in
-          not_both_ways _ (and_from _ _ nodes.0 nodes.1) (w.in_default.ensures.none ?)
+          not_both_ways _ (and_from _ _ nodes.0 nodes.1) (w.in_default.ensures.none refl)
     ]
 
 pub returns : goal.returns

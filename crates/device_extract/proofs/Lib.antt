@@ -7,3 +7,4 @@ pub mod FetLists
 pub mod Listing
 pub mod OneList
 pub mod Extracting
+pub mod OneReason

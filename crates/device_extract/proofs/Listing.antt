@@ -81,6 +81,15 @@ all_pairs ends no_bare no_crowded k d lt =
     let at = slice_get-get_or ends k d lt in
     pair_of (get_or ends k d) (all_pass is_bare ends k (get_or ends k d) at no_bare) (all_pass is_crowded ends k (get_or ends k d) at no_crowded)
 
+-- three numbers in rising order are not among two
+pub two_of : {P : Type 0} (p q a b c : ℕ) → (a ≡ p) ⊎ (a ≡ q) → (b ≡ p) ⊎ (b ≡ q) → (c ≡ p) ⊎ (c ≡ q) → a < b → b < c → P
+two_of p q a b c (inl ea) (inl eb) ec ab bc = absurd (omega (arith, ea, eb, ab))
+two_of p q a b c (inr ea) (inr eb) ec ab bc = absurd (omega (arith, ea, eb, ab))
+two_of p q a b c (inl ea) (inr eb) (inl ec) ab bc = absurd (omega (arith, ea, ec, ab, bc))
+two_of p q a b c (inl ea) (inr eb) (inr ec) ab bc = absurd (omega (arith, eb, ec, bc))
+two_of p q a b c (inr ea) (inl eb) (inl ec) ab bc = absurd (omega (arith, eb, ec, bc))
+two_of p q a b c (inr ea) (inl eb) (inr ec) ab bc = absurd (omega (arith, ea, ec, ab, bc))
+
 module _ (plan : Plan) (masks : MaskLists) (nets : Nets) (roots : List Node) (are : AreNetRoots (channel_plane masks) roots) where
   pub root_cell : (t : ℕ) (root : Node) → slice_get roots t ≡ Some root → IsCellOf masks t root.wire root.x root.y
   root_cell t root at = record { roots = roots; are = are; root = root; at = at; thing = (are.least t root at).thing; linked = linked_refl (is_link (channel_plane masks)) root }
@@ -148,14 +157,6 @@ module _ (plan : Plan) (masks : MaskLists) (nets : Nets) (roots : List Node) (ar
 
       pub bare_end : (t : ℕ) → IsBare plan masks nets t → slice_get ends t ≡ Some Bare
       bare_end t bare = let (e, at_e) = end_at t (cell_in t bare.line bare.x bare.y bare.cell) in at_e ∙ ap (λ (x : Ends). Some x) (not_bare t e at_e bare)
-
-      two_of : {P : Type 0} (p q a b c : ℕ) → (a ≡ p) ⊎ (a ≡ q) → (b ≡ p) ⊎ (b ≡ q) → (c ≡ p) ⊎ (c ≡ q) → a < b → b < c → P
-      two_of p q a b c (inl ea) (inl eb) ec ab bc = absurd (omega (arith, ea, eb, ab))
-      two_of p q a b c (inr ea) (inr eb) ec ab bc = absurd (omega (arith, ea, eb, ab))
-      two_of p q a b c (inl ea) (inr eb) (inl ec) ab bc = absurd (omega (arith, ea, ec, ab, bc))
-      two_of p q a b c (inl ea) (inr eb) (inr ec) ab bc = absurd (omega (arith, eb, ec, bc))
-      two_of p q a b c (inr ea) (inl eb) (inl ec) ab bc = absurd (omega (arith, eb, ec, bc))
-      two_of p q a b c (inr ea) (inl eb) (inr ec) ab bc = absurd (omega (arith, ea, ec, ab, bc))
 
       crowded_only : (t : ℕ) (e : Ends) → slice_get ends t ≡ Some e → IsCrowded plan masks nets t → e ≡ Crowded
       crowded_only t Bare at_e h = absurd (told.at t Bare at_e h.a (pairs.whole t h.a h.first))

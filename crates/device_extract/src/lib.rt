@@ -22,5 +22,5 @@ mod sides;
 mod terminals;
 
 pub use extraction::extract;
-pub use laws::one_list_of_transistors;
+pub use laws::one_extraction;
 pub use refusal::DeviceRefusal;

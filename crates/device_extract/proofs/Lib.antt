@@ -8,3 +8,4 @@ pub mod Listing
 pub mod OneList
 pub mod Extracting
 pub mod OneReason
+pub mod Worked

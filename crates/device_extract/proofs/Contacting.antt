@@ -1,26 +1,25 @@
 -- Transistors and nets that touch at the cells of a side.
-use Rattle.std.proofs.Common.{◌≡◌, ℕ, ◌+◌, ◌<◌, ◌≤◌, Bool, true, false, not, ◌&&◌, ◌||◌, ◌==◌, List, [], ◌∷◌, ◌++◌, length, refl, sym, ap, ◌∙◌, subst, arith, inl, inr, slice_get, get_or, Some, append_assoc}
+use Rattle.std.proofs.Common.{◌≡◌, ℕ, ◌+◌, ◌<◌, ◌≤◌, Bool, true, false, not, ◌&&◌, ◌||◌, ◌==◌, List, [], ◌∷◌, ◌++◌, length, refl, sym, ap, ◌∙◌, subst, arith, inl, inr, slice_get, Some, append_assoc}
 use Rattle.std.specs.Prelude.{ℤ, ◌+ℤ◌, ◌-ℤ◌, pos, int_lt}
-use Rattle.std.specs.List.{All, list_any}
-use Rattle.std.proofs.lemmas.Bool.{cases_order, and_parts, and_from, eqb-true, eq-eqb, or_left}
+use Rattle.std.specs.List.{All}
+use Rattle.std.proofs.lemmas.Bool.{cases_order, and_parts, and_from, eq-eqb, or_left}
 use Rattle.std.proofs.lemmas.Int.{ints}
 use Rattle.std.proofs.lemmas.List.Elements.{All-nil, All-push, All-append, All-weaker}
-use Rattle.std.proofs.lemmas.List.Folds.{list_any-append, Any-from_list_any}
-use Rattle.std.proofs.lemmas.Option.{slice_get_within, slice_get-get_or}
+use Rattle.std.proofs.lemmas.List.Folds.{list_any-append}
+use Rattle.std.proofs.lemmas.Option.{slice_get_within}
 use Rattle.link_classes.specs.Linked.{Linked}
-use Rattle.link_classes.proofs.Chains.{linked_sym, linked_map, linked_touch}
+use Rattle.link_classes.proofs.Chains.{linked_map, linked_touch}
 use Rattle.link_classes.proofs.UniqueNumbers.{some_one}
 use Rattle.plane_geom.specs.Cells.{is_between}
 use Rattle.switch_net.specs.declared.NetId.{NetId}
 use Rattle.layer_map.specs.Plan.{Plan, IsKeptMap}
-use Rattle.layer_map.specs.Plan as layers
 use Rattle.mask_region.specs.declared.strips.Strip.{Strip}
-use Rattle.mask_region.specs.Strips.{MaskLists, is_in_strip, is_in, Banded}
+use Rattle.mask_region.specs.Strips.{MaskLists, is_in_strip, Banded}
 use Rattle.net_trace.specs.declared.node.Node.{Node}
-use Rattle.net_trace.specs.Touching.{Nets, is_in_wire, has_node, is_node, is_along, is_through, touches}
+use Rattle.net_trace.specs.Touching.{Nets, has_node, is_node, is_along, is_through}
 use Rattle.net_trace.specs.Nets.{node_at, is_link, IsNetNumber}
 use Rattle.net_trace.specs.Wirings.{is_along_wire}
-use Rattle.net_trace.proofs.Lists.{none_more, not_both_ways}
+use Rattle.net_trace.proofs.Lists.{none_more}
 use Rattle.net_trace.proofs.NetNumbers.{net_one}
 use Rattle.net_trace.proofs.Rectangles.{rectangle_linked}
 use Rattle.net_trace.proofs.TracedNets.{touch_link}
@@ -29,7 +28,7 @@ use Rattle.net_trace.proofs.VertexFacts.{strip_with, in_region}
 use Rattle.device_extract.specs.declared.sides.Side.{Side}
 use Rattle.device_extract.specs.Channels.{channel_plane}
 use Rattle.device_extract.specs.Transistors.{IsTerminalOf}
-use Rattle.device_extract.specs.Contacts.{strip_shifted, IsStep, IsSideOf, HasSide, AreSides, AreTouched, has_contact, IsContactAt, IsContact, AreContactsAdded, AreContacts}
+use Rattle.device_extract.specs.Contacts.{IsSideOf, HasSide, AreSides, AreTouched, has_contact, IsContactAt, IsContact, AreContactsAdded, AreContacts}
 use Rattle.device_extract.proofs.FetLists.{kept_at}
 use Rattle.device_extract.proofs.SideLists.{step_between, step_beside}
 

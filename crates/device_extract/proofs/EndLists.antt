@@ -1,11 +1,9 @@
 -- The terminals of transistors, pair by pair.
-use Rattle.std.proofs.Common.{◌≡◌, ◌≢◌, ℕ, zero, suc, ◌+◌, ◌<◌, ◌≤◌, ◌⊎◌, Bool, true, false, ◌&&◌, ◌||◌, ◌==◌, List, [], ◌∷◌, ◌++◌, length, take, refl, sym, ap, ◌∙◌, subst, arith, inl, inr, slice_get, slice_set, get_or, Some}
-use Rattle.std.specs.List.{All, list_any}
-use Rattle.std.proofs.lemmas.Bool.{cases_order, and_parts, and_from, eqb-true, eq-eqb, or_left}
+use Rattle.std.proofs.Common.{◌≡◌, ◌≢◌, ℕ, ◌+◌, ◌<◌, ◌≤◌, ◌⊎◌, Bool, true, false, ◌&&◌, ◌||◌, ◌==◌, List, [], ◌∷◌, length, take, refl, sym, ap, ◌∙◌, subst, arith, inl, inr, slice_get, slice_set, get_or, Some}
+use Rattle.std.proofs.lemmas.Bool.{cases_order, eqb-true, eq-eqb, or_left}
 use Rattle.std.proofs.lemmas.List.{length-set, take_more, take_all}
 use Rattle.std.proofs.lemmas.List.Folds.{list_any-append}
-use Rattle.std.proofs.lemmas.Option.{slice_get_within, slice_get-get_or, get_or_from_slice_get}
-use Rattle.link_classes.proofs.UniqueNumbers.{some_one, no_some}
+use Rattle.std.proofs.lemmas.Option.{slice_get-get_or}
 use Rattle.switch_net.specs.declared.NetId.{NetId}
 use Rattle.mask_region.proofs.Within.{or_cases}
 use Rattle.net_trace.proofs.Filling.{get_set}
@@ -46,10 +44,15 @@ module _ (has : ℕ → Bool) (net : ℕ) where
   ends_before a lt h = record { first = new net refl; second = old a h.first; rising = lt; only = λ n g. elim (cases n g) [ inl has_n ↦ inr (h.only n has_n) | inr is_n ↦ inl is_n ] }
 
   pub ends_known : (a b : ℕ) → (a ≡ net) ⊎ (b ≡ net) → HasTwo has a b → HasTwo (λ n. has n || (net == n)) a b
-  ends_known a b is h = record { first = old a h.first; second = old b h.second; rising = h.rising; only = λ n g. elim (cases n g) [
-    | inl has_n ↦ h.only n has_n
-    | inr is_n ↦ elim is [ inl first ↦ inl (is_n ∙ sym first) | inr second ↦ inr (is_n ∙ sym second) ]
-  ] }
+  ends_known a b is h = record {
+    first = old a h.first;
+    second = old b h.second;
+    rising = h.rising;
+    only = λ n g. elim (cases n g) [
+      | inl has_n ↦ h.only n has_n
+      | inr is_n ↦ elim is [ inl first ↦ inl (is_n ∙ sym first) | inr second ↦ inr (is_n ∙ sym second) ]
+    ];
+  }
 
   pub ends_third : (a b : ℕ) → a ≢ net → b ≢ net → HasTwo has a b → HasThree (λ n. has n || (net == n))
   ends_third a b not_a not_b h = elim (cases_order net a) [

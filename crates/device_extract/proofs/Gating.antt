@@ -1,11 +1,11 @@
 -- Channel cells with no gate, line by line.
-use Rattle.std.proofs.Common.{◌≡◌, ℕ, zero, suc, ◌+◌, ◌<◌, ◌≤◌, Bool, true, false, not, ◌&&◌, List, [], ◌∷◌, length, refl, sym, ap, ◌∙◌, subst, arith, inl, inr, slice_get, get_or, Some, ◌==◌}
+use Rattle.std.proofs.Common.{◌≡◌, ℕ, zero, suc, ◌+◌, ◌<◌, ◌≤◌, Bool, true, false, not, ◌&&◌, List, [], length, refl, sym, ap, ◌∙◌, subst, arith, inl, inr, slice_get, get_or, Some, ◌==◌}
 use Rattle.std.specs.Prelude.{ℤ}
 use Rattle.std.specs.declared.cmp.Ordering.TheVariants.{Less}
-use Rattle.std.specs.Ordering.{nat_cmp, int_cmp, ordering_then}
+use Rattle.std.specs.Ordering.{int_cmp, ordering_then}
 use Rattle.std.proofs.lemmas.Bool.{cases_order, and_parts, and_from, eq-eqb}
 use Rattle.std.proofs.lemmas.Int.{ints}
-use Rattle.std.proofs.lemmas.Option.{slice_get_within, get_or_from_slice_get, slice_get-get_or}
+use Rattle.std.proofs.lemmas.Option.{slice_get_within, get_or_from_slice_get}
 use Rattle.link_classes.proofs.TableNumbers.{nat_less}
 use Rattle.link_classes.proofs.UniqueNumbers.{some_one}
 use Rattle.plane_geom.specs.declared.shapes.Point.{Point}
@@ -13,20 +13,18 @@ use Rattle.layer_map.specs.Plan.{Plan}
 use Rattle.layer_map.specs.Plan as layers
 use Rattle.mask_region.specs.declared.strips.Strip.{Strip}
 use Rattle.mask_region.specs.Strips.{MaskLists, is_in_strip, is_in, IsStrip, Follows, Banded}
-use Rattle.mask_region.proofs.Banding.{all_strips}
 use Rattle.mask_region.proofs.Searching.{follows_at}
-use Rattle.net_trace.specs.declared.node.Node.{Node}
 use Rattle.net_trace.specs.declared.wiring.Vertex.{Vertex}
-use Rattle.net_trace.specs.Touching.{Nets, is_in_wire, has_node}
+use Rattle.net_trace.specs.Touching.{is_in_wire, has_node}
 use Rattle.net_trace.specs.Nets.{node_cmp, node_at}
-use Rattle.net_trace.specs.Wirings.{is_at, corner, IsBehind}
+use Rattle.net_trace.specs.Wirings.{corner}
 use Rattle.net_trace.proofs.Lists.{not_both_ways}
 use Rattle.net_trace.proofs.NodeOrder.{corner_before, corner_least}
 use Rattle.net_trace.proofs.TracedNets.{not_before}
 use Rattle.net_trace.proofs.TracedStart.{less_both}
-use Rattle.net_trace.proofs.VertexFacts.{strip_with, in_region, has_corner}
+use Rattle.net_trace.proofs.VertexFacts.{strip_with, in_region}
 use Rattle.net_trace.proofs.VertexLists.{strip_in}
-use Rattle.device_extract.specs.Channels.{channel_plane, wire_plane, is_channel, IsUngated, AreGated, IsFirstUngated, IsLeastIn}
+use Rattle.device_extract.specs.Channels.{wire_plane, IsUngated, AreGated, IsFirstUngated, IsLeastIn}
 
 -- ---- the least cell of a region
 

@@ -1,15 +1,13 @@
 -- What the least cells and the ends of transistors say of the layout.
-use Rattle.std.proofs.Common.{◌≡◌, ℕ, zero, suc, cond, ◌+◌, ◌<◌, ◌≤◌, ◌⊎◌, Bool, true, false, ◌&&◌, ◌==◌, List, [], ◌∷◌, length, refl, sym, ap, ◌∙◌, subst, arith, inl, inr, slice_get, get_or, Some, Option, None}
+use Rattle.std.proofs.Common.{◌≡◌, ℕ, zero, suc, cond, ◌+◌, ◌<◌, ◌⊎◌, Bool, true, false, ◌&&◌, ◌==◌, List, [], ◌∷◌, length, refl, sym, ap, ◌∙◌, subst, arith, inl, inr, slice_get, get_or, Some, None}
 use Rattle.std.specs.Prelude.{ℤ}
 use Rattle.std.specs.List.{All, position, position_from}
 use Rattle.std.proofs.lemmas.Iterator.Adapters.{position_from-zero}
 use Rattle.std.proofs.lemmas.List.Quantifiers.{position-Some}
-use Rattle.std.specs.declared.cmp.Ordering.TheVariants.{Less}
 use Rattle.std.proofs.lemmas.Bool.{and_parts, eqb-true}
 use Rattle.std.proofs.lemmas.List.Folds.{Any-from_list_any}
 use Rattle.std.proofs.lemmas.Option.{slice_get_within, slice_get-get_or, get_or_from_slice_get}
-use Rattle.link_classes.specs.Linked.{Linked}
-use Rattle.link_classes.proofs.Chains.{linked_refl, linked_sym}
+use Rattle.link_classes.proofs.Chains.{linked_refl}
 use Rattle.link_classes.proofs.UniqueNumbers.{some_one, no_some}
 use Rattle.plane_geom.specs.declared.shapes.Point.{Point}
 use Rattle.switch_net.specs.declared.NetId.{NetId}
@@ -20,16 +18,16 @@ use Rattle.mask_region.specs.declared.strips.Strip.{Strip}
 use Rattle.mask_region.specs.Strips.{MaskLists}
 use Rattle.net_trace.specs.declared.node.Node.{Node}
 use Rattle.net_trace.specs.Touching.{Nets, is_in_wire, has_node}
-use Rattle.net_trace.specs.Nets.{node_cmp, node_at, is_link, AreNetRoots, IsNetNumber, IsNetCount}
+use Rattle.net_trace.specs.Nets.{node_cmp, node_at, is_link, AreNetRoots, IsNetCount}
 use Rattle.net_trace.proofs.Lists.{not_both_ways}
 use Rattle.net_trace.proofs.NetNumbers.{net_links, net_below}
 use Rattle.net_trace.proofs.VertexFacts.{by_wire}
 use Rattle.device_extract.specs.declared.terminals.Ends.{Ends}
 use Rattle.device_extract.specs.declared.terminals.Ends.TheVariants.{Bare, One, Two, Crowded}
-use Rattle.device_extract.specs.Channels.{channel_plane, wire_plane, IsCellOf, IsLeastCellOf, IsUngated, AreGated}
-use Rattle.device_extract.specs.Transistors.{IsKindOf, IsGateOf, IsTerminalOf, IsTransistor, AreTransistors}
+use Rattle.device_extract.specs.Channels.{channel_plane, wire_plane, IsCellOf, IsLeastCellOf, AreGated}
+use Rattle.device_extract.specs.Transistors.{IsTerminalOf, IsTransistor, AreTransistors}
 use Rattle.device_extract.specs.Refusals.{IsBare, IsCrowded, IsFirstBare, IsFirstCrowded}
-use Rattle.device_extract.specs.Contacts.{has_contact, AreContacts, AreEnds, AreEndsOf, IsPair, is_bare, is_crowded, HasPair, HasGate, IsFetAt, AreFetsAt}
+use Rattle.device_extract.specs.Contacts.{has_contact, AreContacts, AreEndsOf, IsPair, is_bare, is_crowded, HasPair, HasGate, IsFetAt, AreFetsAt}
 
 pub element_at : {A : Type 0} (xs : List A) (k : ℕ) → k < length xs → (x : A) × (slice_get xs k ≡ Some x)
 element_at [] k lt = absurd (omega (arith, lt))

@@ -1,5 +1,5 @@
 -- A layout has one list of transistors.
-use Rattle.std.proofs.Common.{◌≡◌, ℕ, zero, suc, ◌+◌, ◌<◌, ◌≤◌, ◌⊎◌, Bool, true, false, ◌&&◌, ◌||◌, ◌==◌, List, [], ◌∷◌, length, refl, sym, ap, ◌∙◌, subst, arith, inl, inr, slice_get, Some, None, Option}
+use Rattle.std.proofs.Common.{◌≡◌, ℕ, suc, ◌≤◌, ◌⊎◌, Bool, true, false, ◌&&◌, ◌||◌, ◌==◌, List, [], ◌∷◌, length, refl, sym, ap, ◌∙◌, subst, arith, inl, inr, slice_get, Some, None, Option}
 use Rattle.std.specs.Prelude.{ℤ}
 use Rattle.std.proofs.lemmas.Bool.{and_parts, and_from, eqb-true, eq-eqb, or_left}
 use Rattle.std.proofs.lemmas.Option.{slice_get_within}
@@ -7,7 +7,6 @@ use Rattle.link_classes.specs.Linked.{Linked}
 use Rattle.link_classes.proofs.Chains.{linked_map, linked_kept, linked_touch}
 use Rattle.link_classes.proofs.UniqueNumbers.{some_one}
 use Rattle.switch_net.specs.declared.Kind.{Kind}
-use Rattle.switch_net.specs.declared.NetId.{NetId}
 use Rattle.switch_net.specs.declared.Fet.{Fet}
 use Rattle.layer_map.specs.Plan.{Plan}
 use Rattle.layer_map.specs.Plan as layers
@@ -20,8 +19,8 @@ use Rattle.net_trace.specs.Nets.{node_at, is_joined, is_link, IsNetNumber}
 use Rattle.net_trace.proofs.NetNumbers.{net_one, net_links, net_count}
 use Rattle.net_trace.proofs.TracedNets.{touch_link}
 use Rattle.net_trace.proofs.VertexFacts.{by_wire}
-use Rattle.device_extract.specs.Channels.{channel_plane, wire_plane, IsCellOf, IsUngated, AreGated}
-use Rattle.device_extract.specs.Transistors.{IsKindOf, IsGateOf, IsTerminalOf, IsTransistor, AreTransistors}
+use Rattle.device_extract.specs.Channels.{channel_plane, wire_plane, IsCellOf, AreGated}
+use Rattle.device_extract.specs.Transistors.{IsKindOf, IsGateOf, IsTransistor, AreTransistors}
 use Rattle.device_extract.proofs.Listing.{element_at}
 
 -- ---- channel cells that touch
@@ -31,11 +30,13 @@ pub plane_step : (masks : MaskLists) (a b : Node) → is_link (channel_plane mas
     → ((is_node (channel_plane masks) a ≡ true) × (is_node (channel_plane masks) b ≡ true)) × (is_along a b ≡ true)
 plane_step masks a b is = elim (or_cases (touches (channel_plane masks) a b) ((is_node (channel_plane masks) a && is_node (channel_plane masks) b) && is_joined [] a b) is) [
   | inl touch ↦
-      let (nodes, near) = and_parts (is_node (channel_plane masks) a && is_node (channel_plane masks) b) (is_along a b || is_through [] a b) touch in
-      (and_parts (is_node (channel_plane masks) a) (is_node (channel_plane masks) b) nodes, elim (or_cases (is_along a b) (is_through [] a b) near) [
-        | inl along ↦ along
-        | inr through ↦ let (cell, none) = and_parts _ false through in absurd (let no : ⊥ = cc in no)
-      ])
+      let (nodes, near) = and_parts (is_node (channel_plane masks) a && is_node (channel_plane masks) b) (is_along a b || is_through [] a b) touch in (
+        and_parts (is_node (channel_plane masks) a) (is_node (channel_plane masks) b) nodes,
+        elim (or_cases (is_along a b) (is_through [] a b) near) [
+          | inl along ↦ along
+          | inr through ↦ let (cell, none) = and_parts _ false through in absurd (let no : ⊥ = cc in no)
+        ],
+      )
   | inr join ↦ let (nodes, none) = and_parts (is_node (channel_plane masks) a && is_node (channel_plane masks) b) (is_joined [] a b) join in absurd (let no : ⊥ = cc in no)
 ]
 

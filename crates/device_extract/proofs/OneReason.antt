@@ -1,5 +1,5 @@
 -- A layout is refused for one reason, and never has a list of transistors then.
-use Rattle.std.proofs.Common.{◌≡◌, ℕ, ◌<◌, ◌≤◌, ◌⊎◌, List, length, refl, sym, ap, ◌∙◌, subst, arith, inl, inr, slice_get, Some}
+use Rattle.std.proofs.Common.{◌≡◌, ℕ, ◌<◌, ◌≤◌, List, length, refl, sym, ap, ◌∙◌, subst, arith, inl, inr}
 use Rattle.std.specs.Prelude.{ℤ}
 use Rattle.std.specs.declared.cmp.Ordering.{Ordering}
 use Rattle.std.specs.declared.cmp.Ordering.TheVariants.{Less, Equal, Greater}
@@ -16,9 +16,9 @@ use Rattle.net_trace.proofs.NetNumbers.{net_below}
 use Rattle.net_trace.proofs.NodeOrder.{node_total, node_equal}
 use Rattle.device_extract.specs.declared.refusal.DeviceRefusal.{DeviceRefusal}
 use Rattle.device_extract.specs.declared.refusal.DeviceRefusal.TheVariants.{UngatedChannel, NoTerminal, ManyTerminals, TooManyFets, NoMemory}
-use Rattle.device_extract.specs.Channels.{channel_plane, IsCellOf, IsLeastCellOf, IsUngated, AreGated, IsFirstUngated}
-use Rattle.device_extract.specs.Transistors.{IsTerminalOf, IsTransistor, AreTransistors}
-use Rattle.device_extract.specs.Refusals.{IsBare, IsCrowded, IsFirstBare, IsFirstCrowded, HasManyFets, RefusesDevices}
+use Rattle.device_extract.specs.Channels.{channel_plane, IsCellOf, IsLeastCellOf, AreGated, IsFirstUngated}
+use Rattle.device_extract.specs.Transistors.{IsTransistor, AreTransistors}
+use Rattle.device_extract.specs.Refusals.{IsBare, IsCrowded, RefusesDevices}
 use Rattle.device_extract.proofs.Listing.{element_at, two_of}
 use Rattle.device_extract.proofs.OneList.{one_list}
 

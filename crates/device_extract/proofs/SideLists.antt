@@ -1,19 +1,18 @@
 -- The four sides of each line, and the terminals that lie there.
-use Rattle.std.proofs.Common.{◌≡◌, ℕ, zero, suc, ◌+◌, ◌<◌, ◌≤◌, ◌⊎◌, Bool, true, ◌||◌, ◌&&◌, List, [], ◌∷◌, ◌++◌, length, refl, sym, ap, ◌∙◌, subst, arith, inl, inr, slice_get, Some, append_assoc}
+use Rattle.std.proofs.Common.{◌≡◌, ℕ, zero, suc, ◌+◌, ◌<◌, ◌⊎◌, true, ◌&&◌, List, [], ◌∷◌, ◌++◌, length, refl, sym, ap, ◌∙◌, subst, arith, inl, inr, slice_get, Some}
 use Rattle.std.specs.Prelude.{ℤ, pos, neg_ℤ, ◌+ℤ◌, ◌-ℤ◌}
 use Rattle.std.specs.List.{All}
 use Rattle.std.specs.Ordering.{int_eq}
 use Rattle.std.proofs.lemmas.Bool.{cases_order, and_parts}
 use Rattle.std.proofs.lemmas.Int.{ints}
 use Rattle.std.proofs.lemmas.List.Elements.{All-nil, All-push}
-use Rattle.std.proofs.lemmas.Option.{slice_get_within}
 use Rattle.link_classes.proofs.UniqueNumbers.{some_one, no_some}
 use Rattle.layer_map.specs.Plan as layers
 use Rattle.layer_map.specs.declared.map.WireId.{WireId}
 use Rattle.mask_region.specs.declared.strips.Strip.{Strip}
 use Rattle.mask_region.specs.Strips.{is_in}
 use Rattle.mask_region.proofs.Within.{or_cases}
-use Rattle.net_trace.specs.Touching.{Nets, is_in_wire, has_node, is_step, is_beside}
+use Rattle.net_trace.specs.Touching.{Nets, is_in_wire, is_step, is_beside}
 use Rattle.net_trace.proofs.VertexLists.{get_left, get_right, get_append}
 use Rattle.device_extract.specs.declared.sides.Side.{Side}
 use Rattle.device_extract.specs.Contacts.{IsStep, IsSideOf, HasSide, AreSides, AreTouched}

@@ -1,15 +1,12 @@
 -- Worked rows: a channel of four by four cells, and none at all.
-use Rattle.std.proofs.Common.{◌≡◌, ℕ, ◌<◌, true, false, List, [], ◌∷◌, length, refl, sym, ap, zero, suc, arith, slice_get, Some}
-use Rattle.std.specs.Prelude.{ℤ, pos, neg_ℤ}
-use Rattle.plane_geom.specs.declared.shapes.Point.{Point}
+use Rattle.std.proofs.Common.{◌≡◌, ℕ, true, false, [], ◌∷◌, refl, sym, ap, zero, suc, arith, slice_get, Some}
+use Rattle.std.specs.Prelude.{pos}
 use Rattle.switch_net.specs.declared.Kind.TheVariants.{N}
-use Rattle.switch_net.specs.declared.NetId.{NetId}
 use Rattle.switch_net.specs.declared.Fet.{Fet}
 use Rattle.layer_map.specs.Plan.{Plan}
 use Rattle.layer_map.specs.Plan as layers
-use Rattle.layer_map.specs.Truth.{Formula, on}
+use Rattle.layer_map.specs.Truth.{on}
 use Rattle.link_classes.proofs.UniqueNumbers.{some_one, no_some}
-use Rattle.mask_region.specs.declared.strips.Strip.{Strip}
 use Rattle.mask_region.specs.Strips.{MaskLists}
 use Rattle.net_trace.specs.declared.node.Node.{Node}
 use Rattle.net_trace.specs.Touching.{Nets, is_node, is_beside, has_node, plane_of}

@@ -1,5 +1,5 @@
 -- Why a layout's transistors are not given.
-use Rattle.std.specs.Prelude.{◌≡◌, ℕ, ℤ, ◌<◌, List, length}
+use Rattle.std.specs.Prelude.{ℕ, ℤ, ◌<◌, List, length}
 use Rattle.plane_geom.specs.declared.shapes.Point.{Point}
 use Rattle.switch_net.specs.declared.Fet.{Fet}
 use Rattle.layer_map.specs.Plan.{Plan}

@@ -1,6 +1,5 @@
 -- What a transistor is between: its gate and its terminals.
-use Rattle.std.specs.Prelude.{◌≡◌, ℕ, ℤ, ◌<◌, ◌≤◌, ◌⊎◌, true, List, length, Some, slice_get}
-use Rattle.plane_geom.specs.declared.shapes.Point.{Point}
+use Rattle.std.specs.Prelude.{◌≡◌, ℕ, ℤ, ◌≤◌, ◌⊎◌, true, List, length, Some, slice_get}
 use Rattle.switch_net.specs.declared.Kind.{Kind}
 use Rattle.switch_net.specs.declared.Fet.{Fet}
 use Rattle.layer_map.specs.Plan.{Plan}

@@ -70,12 +70,7 @@ fn add_contacts(
 }
 
 /// The transistor and the net at the least cell of the strip.
-fn contact_at(
-    traced: &Traced,
-    pieces: &Pieces,
-    strip: &Strip,
-    side: Side,
-) -> Option<(usize, NetId)>
+fn contact_at(traced: &Traced, pieces: &Pieces, strip: &Strip, side: Side) -> Option<(usize, NetId)>
     ensures none { result ≡ None → (has_node pieces.now side.line (strip.now.x0 -ℤ side.right) (strip.now.y0 -ℤ side.up) && has_node traced.now side.diff.0 strip.now.x0 strip.now.y0) ≡ false }
     ensures some { IfSome result (λ contact. IsContactAt pieces.now traced.now side strip.now.x0 strip.now.y0 contact) }
 {

@@ -3,7 +3,7 @@ use Rattle.std.proofs.lemmas.Bool.{and_from}
 use Rattle.std.proofs.lemmas.Option.{slice_get-get_or}
 use Rattle.mask_region.specs.Strips.{Banded}
 use Rattle.net_trace.proofs.Lists.{not_both_ways}
-use Rattle.device_extract.specs.Contacts.{AreTouched, AreContactsAdded}
+use Rattle.device_extract.specs.Contacts.{AreTouched}
 use Rattle.device_extract.proofs.Contacting.{contacting_more, corner_nodes, contacts_added}
 use Rattle.device_extract.proofs.contacts.add_contacts.Goals.{in-Some+in_ok-push, in_default}
 use Rattle.device_extract.proofs.contacts.add_contacts.Goals as goal

@@ -1,7 +1,6 @@
-use Rattle.std.proofs.Common.{ap, sym, ◌∙◌, subst, arith, length, get_or}
+use Rattle.std.proofs.Common.{sym, subst, arith, length, get_or}
 use Rattle.std.proofs.lemmas.Option.{slice_get-get_or}
 use Rattle.net_trace.specs.Touching.{Nets}
-use Rattle.device_extract.specs.Channels.{channel_plane}
 use Rattle.device_extract.specs.Contacts.{AreSides, AreContactsAdded}
 use Rattle.device_extract.proofs.Contacting.{contacts_more, contacts_all, side_within, no_side}
 use Rattle.device_extract.proofs.contacts.contacts.Goals as goal

@@ -1,4 +1,4 @@
-use Rattle.std.proofs.Common.{ap, sym, ◌∙◌, subst, arith, length, refl}
+use Rattle.std.proofs.Common.{ap, arith, length, refl}
 use Rattle.net_trace.proofs.Making.{if_ok_as}
 use Rattle.net_trace.proofs.Wires.{wire_at}
 use Rattle.device_extract.specs.Channels.{channel_plane, wire_plane}

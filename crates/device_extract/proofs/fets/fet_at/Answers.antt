@@ -1,4 +1,4 @@
-use Rattle.std.proofs.Common.{ap, sym, ◌∙◌, subst}
+use Rattle.std.proofs.Common.{sym, ◌∙◌}
 use Rattle.layer_map.specs.Views.{fet_seen}
 use Rattle.device_extract.proofs.FetLists.{line_at, line_in, some_of, fet_here, some_net}
 use Rattle.device_extract.proofs.fets.fet_at.Goals as goal

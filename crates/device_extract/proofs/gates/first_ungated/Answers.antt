@@ -1,4 +1,4 @@
-use Rattle.std.proofs.Common.{ap, sym, ◌∙◌, subst, arith, length, map}
+use Rattle.std.proofs.Common.{ap, sym, arith, length}
 use Rattle.std.proofs.lemmas.List.{length-map}
 use Rattle.layer_map.specs.Views.{fet_seen}
 use Rattle.net_trace.proofs.Wires.{wire_at}

@@ -47,7 +47,11 @@ pub(crate) struct Labels {
 }
 
 /// The nets of the wires and cuts, where nothing is joined.
-pub(crate) fn labels_of(alloc: Global, wiring: &Wiring, cuts: &[CutArea]) -> Result<Labels, AllocError>
+pub(crate) fn labels_of(
+    alloc: Global,
+    wiring: &Wiring,
+    cuts: &[CutArea],
+) -> Result<Labels, AllocError>
     ensures traced { IfOk result (λ l. IsTraced (record { wires = wiring.now; cuts = cuts.now; joins = [] }) l.label.items l.roots.items) }
     ensures banded { IfOk result (λ _. AreAllBanded wiring.now) }
 {

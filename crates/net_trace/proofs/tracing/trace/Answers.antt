@@ -1,4 +1,4 @@
-use Rattle.std.proofs.Common.{[], sym, ◌∙◌, arith, refl}
+use Rattle.std.proofs.Common.{[], ◌∙◌, arith, refl}
 use Rattle.net_trace.specs.Touching.{Nets, traced_nets}
 use Rattle.net_trace.specs.Wirings.{IsTraced}
 use Rattle.net_trace.proofs.Making.{cuts_moved, cuts_made, nets_made, more_made, few_made}

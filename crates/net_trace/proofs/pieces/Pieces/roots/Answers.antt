@@ -1,4 +1,4 @@
-use Rattle.std.proofs.Common.{[], sym, ◌∙◌, subst}
+use Rattle.std.proofs.Common.{[], sym, subst}
 use Rattle.net_trace.specs.declared.node.Node.{Node}
 use Rattle.net_trace.specs.Touching.{Nets}
 use Rattle.net_trace.specs.Nets.{AreNetRoots}

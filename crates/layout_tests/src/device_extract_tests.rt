@@ -209,7 +209,11 @@ fn so_many_transistors_and_no_more(rt: HostRuntime) -> Result<(), Fail> {
         match found {
             Ok(fets) => assert_eq!(rt; Some(fets.len()), expected, "{}", more),
             Err(refusal) => {
-                assert!(rt; expected.is_none() && refusal == DeviceRefusal::TooManyFets, "{}", more)
+                assert!(rt;
+                    expected.is_none() && refusal == DeviceRefusal::TooManyFets,
+                    "{}",
+                    more
+                )
             }
         }
     }

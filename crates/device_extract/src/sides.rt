@@ -9,7 +9,7 @@ use std::alloc::{AllocError, Global};
 
 /// One of the four sides of the channel cells of a line: the cells that lie so far to the right and up from them, on the
 /// line's diff wire.
-#[derive(Clone, Copy, Debug, PartialEq, Eq)]
+#[derive(Clone, Copy)]
 pub(crate) struct Side {
     pub line: u32,
     pub diff: WireId,

@@ -8,7 +8,7 @@ use std::alloc::{AllocError, Global};
 use switch_net::NetId;
 
 /// The nets of a transistor's terminals: none, one, two with the smaller first, or more.
-#[derive(Clone, Copy, Debug, PartialEq, Eq)]
+#[derive(Clone, Copy)]
 pub(crate) enum Ends {
     Bare,
     One(NetId),

@@ -61,6 +61,7 @@ kept_wire p w h few bounded =
     let longer : length p.wires ≤ length (p.wires ++ (w ∷ [])) = omega (arith, length-append p.wires (w ∷ [])) in
     record {
       few = omega (arith, length-append p.wires (w ∷ []));
+      few_fets = h.few_fets;
       wires = all_push (λ (x : Wire). is_unbounded x.formula ≡ false) p.wires w h.wires bounded;
       cuts = all_weaker _ _ p.cuts (λ c k. record { bounded = k.bounded; wires = numbers_wider _ _ longer c.wires k.wires }) h.cuts;
       fets = all_weaker _ _ p.fets (λ f k. record { bounded = k.bounded; gate = omega (arith, k.gate, longer); diff = omega (arith, k.diff, longer) }) h.fets;
@@ -69,10 +70,10 @@ kept_wire p w h few bounded =
     }
 
 pub kept_cut : (p : Plan) (c : Cut) → IsKeptMap p → IsKeptCut (length p.wires) c → IsKeptMap (record p { cuts = p.cuts ++ (c ∷ []) })
-kept_cut p c h k = record { few = h.few; wires = h.wires; cuts = all_push (IsKeptCut (length p.wires)) p.cuts c h.cuts k; fets = h.fets; labels = h.labels; once = h.once }
+kept_cut p c h k = record { few = h.few; few_fets = h.few_fets; wires = h.wires; cuts = all_push (IsKeptCut (length p.wires)) p.cuts c h.cuts k; fets = h.fets; labels = h.labels; once = h.once }
 
-pub kept_fet : (p : Plan) (f : Fet) → IsKeptMap p → IsKeptFet (length p.wires) f → IsKeptMap (record p { fets = p.fets ++ (f ∷ []) })
-kept_fet p f h k = record { few = h.few; wires = h.wires; cuts = h.cuts; fets = all_push (IsKeptFet (length p.wires)) p.fets f h.fets k; labels = h.labels; once = h.once }
+pub kept_fet : (p : Plan) (f : Fet) → IsKeptMap p → length p.fets < 8 → IsKeptFet (length p.wires) f → IsKeptMap (record p { fets = p.fets ++ (f ∷ []) })
+kept_fet p f h few k = record { few = h.few; few_fets = omega (arith, length-append p.fets (f ∷ [])); wires = h.wires; cuts = h.cuts; fets = all_push (IsKeptFet (length p.wires)) p.fets f h.fets k; labels = h.labels; once = h.once }
 
 not_same : (x y : List ℕ) → bytes_eq x y ≡ false → bytes_eq y x ≡ false
 not_same x y h = go (bytes_eq y x) refl
@@ -99,6 +100,7 @@ map_more f (y ∷ ys) x = ap (λ zs. f y ∷ zs) (map_more f ys x)
 pub kept_label : (p : Plan) (l : LabelWires) → IsKeptMap p → AreNumbers (length p.wires) l.wires → is_among l.layer (map (λ x. x.layer) p.labels) ≡ false → IsKeptMap (record p { labels = p.labels ++ (l ∷ []) })
 kept_label p l h k once = record {
   few = h.few;
+  few_fets = h.few_fets;
   wires = h.wires;
   cuts = h.cuts;
   fets = h.fets;
@@ -125,8 +127,10 @@ kept_with_wire items new w p is e h few bounded =
 pub kept_with_cut : (items new : List CutLine) (c : CutLine) (p : Plan) → p.cuts ≡ map cut_seen items → new ≡ items ++ (c ∷ []) → IsKeptMap p → IsKeptCut (length p.wires) (cut_seen c) → IsKeptMap (record p { cuts = map cut_seen new })
 kept_with_cut items new c p is e h k = subst (λ ws. IsKeptMap (record p { cuts = ws })) (ap (λ xs. xs ++ (cut_seen c ∷ [])) is ∙ sym (map_more cut_seen items c) ∙ ap (map cut_seen) (sym e)) (kept_cut p (cut_seen c) h k)
 
-pub kept_with_fet : (items new : List FetLine) (c : FetLine) (p : Plan) → p.fets ≡ map fet_seen items → new ≡ items ++ (c ∷ []) → IsKeptMap p → IsKeptFet (length p.wires) (fet_seen c) → IsKeptMap (record p { fets = map fet_seen new })
-kept_with_fet items new c p is e h k = subst (λ ws. IsKeptMap (record p { fets = ws })) (ap (λ xs. xs ++ (fet_seen c ∷ [])) is ∙ sym (map_more fet_seen items c) ∙ ap (map fet_seen) (sym e)) (kept_fet p (fet_seen c) h k)
+pub kept_with_fet : (items new : List FetLine) (c : FetLine) (p : Plan) → p.fets ≡ map fet_seen items → new ≡ items ++ (c ∷ []) → IsKeptMap p → length items < 8 → IsKeptFet (length p.wires) (fet_seen c) → IsKeptMap (record p { fets = map fet_seen new })
+kept_with_fet items new c p is e h few k =
+    let size : length p.fets ≡ length items = ap length is ∙ length-map items fet_seen in
+    subst (λ ws. IsKeptMap (record p { fets = ws })) (ap (λ xs. xs ++ (fet_seen c ∷ [])) is ∙ sym (map_more fet_seen items c) ∙ ap (map fet_seen) (sym e)) (kept_fet p (fet_seen c) h (omega (arith, size, few)) k)
 
 pub kept_with_label : (items new : List LabelLine) (c : LabelLine) (p : Plan) → p.labels ≡ map label_seen items → new ≡ items ++ (c ∷ []) → IsKeptMap p → AreNumbers (length p.wires) (label_seen c).wires → is_among (label_seen c).layer (map (λ x. x.layer) p.labels) ≡ false → IsKeptMap (record p { labels = map label_seen new })
 kept_with_label items new c p is e h k once = subst (λ ws. IsKeptMap (record p { labels = ws })) (ap (λ xs. xs ++ (label_seen c ∷ [])) is ∙ sym (map_more label_seen items c) ∙ ap (map label_seen) (sym e)) (kept_label p (label_seen c) h k once)

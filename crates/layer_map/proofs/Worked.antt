@@ -127,7 +127,7 @@ one_wire name = record { wires = record { name = codes "m"; formula = on name } 
 
 kept : IsKeptMap (one_wire (codes "A"))
 unfolding one_wire
-kept = record { few = omega arith; wires = (refl, tt); cuts = tt; fets = tt; labels = tt; once = refl }
+kept = record { few = omega arith; few_fets = omega arith; wires = (refl, tt); cuts = tt; fets = tt; labels = tt; once = refl }
 
 not_kept : (p : Plan) → p.wires ≡ record { name = codes "m"; formula = neither (on (codes "A")) } ∷ [] → IsKeptMap p → ⊥
 not_kept p e k = let bounded = (subst (AllByRecursion (λ (w : Wire). is_unbounded w.formula ≡ false)) e k.wires).0 in cc

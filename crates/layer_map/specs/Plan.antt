@@ -104,10 +104,11 @@ pub record IsKeptFet (count : ℕ) (f : Fet) : Type 0 where
   pub gate : f.gate < count
   pub diff : f.diff < count
 
--- At most 16 wires; the numbers of wires are in range and their lists not empty; no two label lines are of one layer; no
--- expression is true where no layer is present.
+-- At most 16 wires and 8 kinds of transistors; the numbers of wires are in range and their lists not empty; no two label
+-- lines are of one layer; no expression is true where no layer is present.
 pub record IsKeptMap (p : Plan) : Type 0 where
   pub few : length p.wires ≤ 16
+  pub few_fets : length p.fets ≤ 8
   pub wires : AllByRecursion (λ w. is_unbounded w.formula ≡ false) p.wires
   pub cuts : AllByRecursion (IsKeptCut (length p.wires)) p.cuts
   pub fets : AllByRecursion (IsKeptFet (length p.wires)) p.fets

@@ -42,8 +42,9 @@ pub struct LabelLine {
 }
 
 /// A layer map, as it is read: its lines in the order of the text, and the names of the two supplies. Contracts see plain
-/// lists, by `Plan`. Each map keeps `IsKeptMap`: it has at most 16 wires, the numbers of wires are in range and their lists
-/// not empty, no two label lines are of one layer, and no expression is true where no layer is present.
+/// lists, by `Plan`. Each map keeps `IsKeptMap`: it has at most 16 wires and 8 kinds of transistors, the numbers of wires
+/// are in range and their lists not empty, no two label lines are of one layer, and no expression is true where no layer
+/// is present.
 #[derive(Debug, Drop)]
 pub struct LayerMap {
     pub(crate) wires: Vec<WireLine>,

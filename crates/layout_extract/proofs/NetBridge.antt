@@ -254,6 +254,7 @@ module _ (nets : Nets) (none : nets.joins ≡ []) (plan : Plan) (marks : List Ma
               let of_net = ap (λ (n : NetId). n.0) (sym same.net) ∙ (Decides-eqb b.net.0 net).0 is_net in
               let of_name = sym same.name ∙ (bytes_eq-Decides b.name name).0 is_name in
               subst (λ n. IsBoundName g n name) of_net (subst (λ x. IsBoundName g t.net.0 x) of_name (tag_name k t at_t))
+
           back : (net : ℕ) (name : List ℕ) → IsBoundName g net name → is_listed_name list net name ≡ true
           back net name bound =
               let (j, t, at, name_is, of) = name_tag net name bound in

@@ -1,4 +1,5 @@
-//! The tests of the crates that read layouts and layer maps, unfold calls, make masks of shapes, name nets and sweep defects.
+//! The tests of the crates that read layouts and layer maps, unfold calls, make masks of shapes, name nets,
+//! list transistors, follow the paths of circuits and sweep defects.
 //!
 //! Each module tests the crate of its name. A test calls public items alone, on rows whose answers come from outside. The
 //! tests stand apart from the crates, since the tests of a crate are checked together with all of its proofs.
@@ -12,6 +13,8 @@ mod cif_grammar_tests;
 mod cif_reader_tests;
 #[cfg(test)]
 mod defect_sweep_tests;
+#[cfg(test)]
+mod device_extract_tests;
 #[cfg(test)]
 mod fixtures;
 #[cfg(test)]

@@ -16,7 +16,7 @@ use Rattle.net_trace.proofs.VertexLists.{get_left, get_right, get_append, of_wir
 
 -- ---- one element of a list is set
 
-get_set : {A : Type 0} (xs : List A) (e k : ℕ) (y r : A) → slice_get (slice_set xs e y) k ≡ Some r → ((k ≡ e) × (r ≡ y)) ⊎ ((k ≢ e) × (slice_get xs k ≡ Some r))
+pub get_set : {A : Type 0} (xs : List A) (e k : ℕ) (y r : A) → slice_get (slice_set xs e y) k ≡ Some r → ((k ≡ e) × (r ≡ y)) ⊎ ((k ≢ e) × (slice_get xs k ≡ Some r))
 get_set [] e k y r h = no_some r h
 get_set (x ∷ xs) zero zero y r h = inl (refl, sym (some_one y r h))
 get_set (x ∷ xs) zero (suc k) y r h = inr ((λ e. omega (arith, e)), h)

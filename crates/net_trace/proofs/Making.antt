@@ -3,7 +3,8 @@ use Rattle.std.proofs.Common.{◌≡◌, ℕ, zero, suc, ◌<◌, ◌≤◌, Lis
 use Rattle.std.specs.Prelude.{IfOk, Result, Ok, Err}
 use Rattle.std.specs.List.{All, AllByRecursion, AllZip}
 use Rattle.std.proofs.lemmas.List.{take_all}
-use Rattle.std.proofs.lemmas.List.Elements.{All-from_recursion, recursion_from_All}
+use Rattle.std.proofs.lemmas.List.Elements.{All-from_recursion, recursion_from_All, All-weaker}
+use Rattle.std.proofs.lemmas.Option.{slice_get_within}
 use Rattle.link_classes.specs.Classes.{has_pair, AreClasses}
 use Rattle.layer_map.specs.declared.map.CutLine.{CutLine}
 use Rattle.layer_map.specs.Plan.{Plan}
@@ -15,7 +16,7 @@ use Rattle.net_trace.specs.declared.node.Node.{Node}
 use Rattle.net_trace.specs.declared.wiring.Vertex.{Vertex}
 use Rattle.net_trace.specs.Touching.{Cut, Nets, cuts_of, traced_nets, cuts_with}
 use Rattle.net_trace.specs.Nets.{IsJoinedBy, HasMoreNets}
-use Rattle.net_trace.specs.Wirings.{vertices_of, AreAllBanded, AreEdges, IsTraced, AreCorners, ArePicked, AreRenumbered, AreEndsOf}
+use Rattle.net_trace.specs.Wirings.{vertices_of, AreAllBanded, AreEdges, IsSound, IsTraced, AreCorners, ArePicked, AreRenumbered, AreEndsOf}
 use Rattle.net_trace.proofs.NetNumbers.{net_count}
 use Rattle.net_trace.proofs.TracedNets.{roots_are, count_of}
 use Rattle.net_trace.proofs.TracedStart.{traced_start}
@@ -47,6 +48,19 @@ trace_made wires cuts cuts' joins first second pairs pairs' label least least' r
     (subst (λ (c : List Cut). AreEdges (record { wires = wires; cuts = c; joins = [] }) (vertices_of 0 wires) pairs) is_cuts edges)
     (subst (λ (l : List Vertex). AreClasses (length l) (has_pair pairs) label least) is_first (subst (λ (p : List (ℕ × ℕ)). AreClasses (length first) (has_pair p) label least) is_pairs classes))
     (subst (λ (l : List Vertex). AreCorners l least (length least) roots) is_second (subst (λ (l : List ℕ). AreCorners second l (length l) roots) is_least corners)))
+
+-- the pairs are of numbers of strips
+pub edges_inside : (nets : Nets) (vertices from : List Vertex) (pairs to : List (ℕ × ℕ)) → from ≡ vertices → to ≡ pairs → AreEdges nets vertices pairs → All (λ (p : ℕ × ℕ). (p.0 < length from) × (p.1 < length from)) to
+edges_inside nets vertices from pairs to is_from is_to h =
+    subst (λ (l : List (ℕ × ℕ)). All (λ (p : ℕ × ℕ). (p.0 < length from) × (p.1 < length from)) l) (sym is_to)
+    (subst (λ (v : List Vertex). All (λ (p : ℕ × ℕ). (p.0 < length v) × (p.1 < length v)) pairs) (sym is_from)
+    (All-weaker (IsSound nets vertices) (λ (p : ℕ × ℕ). (p.0 < length vertices) × (p.1 < length vertices)) (λ p s. (slice_get_within vertices p.0 s.from s.first, slice_get_within vertices p.1 s.to s.second)) pairs h.sound))
+
+-- the labels, by equal lists of cuts and of joins
+pub cuts_moved : (wires : List (List Strip)) (from to : List Cut) (joins : List (Node × Node)) (label : List ℕ) (roots : List Node) → from ≡ to → joins ≡ []
+    → IsTraced (record { wires = wires; cuts = from; joins = [] }) label roots → IsTraced (record { wires = wires; cuts = to; joins = joins }) label roots
+cuts_moved wires from to joins label roots is_cuts is_joins h =
+    subst (λ (j : List (Node × Node)). IsTraced (record { wires = wires; cuts = to; joins = j }) label roots) (sym is_joins) (subst (λ (c : List Cut). IsTraced (record { wires = wires; cuts = c; joins = [] }) label roots) is_cuts h)
 
 map_wires : (lines : List CutLine) → map (λ c. numbers_seen c.wires.items) lines ≡ map (λ c. c.wires) (map cut_seen lines)
 map_wires [] = refl

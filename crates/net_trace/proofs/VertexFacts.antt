@@ -25,7 +25,7 @@ strip_with r x y has =
 pub wire_has : (wires : List (List Strip)) (w : ℕ) (r : List Strip) (x y : ℤ) → slice_get wires w ≡ Some r → is_in r x y ≡ true → is_in_wire (slice_get wires w) x y ≡ true
 wire_has wires w r x y at has = ap (λ o. is_in_wire o x y) at ∙ has
 
-by_wire : (o : Option (List Strip)) (x y : ℤ) → is_in_wire o x y ≡ true → (r : List Strip) × (o ≡ Some r) × (is_in r x y ≡ true)
+pub by_wire : (o : Option (List Strip)) (x y : ℤ) → is_in_wire o x y ≡ true → (r : List Strip) × (o ≡ Some r) × (is_in r x y ≡ true)
 by_wire None x y has = let none : ⊥ = cc in absurd none
 by_wire (Some r) x y has = (r, refl, has)
 

@@ -32,6 +32,10 @@ cuts_of plan masks = cuts_with masks.cuts (map (λ c. c.wires) plan.cuts)
 abbrev pub traced_nets : Plan → MaskLists → Nets
 traced_nets plan masks = record { wires = masks.wires; cuts = cuts_of plan masks; joins = [] }
 
+-- a plane with these wires, with no cuts and where nothing is joined
+abbrev pub plane_of : List (List Strip) → Nets
+plane_of regions = record { wires = regions; cuts = []; joins = [] }
+
 -- ---- nodes
 
 abbrev pub is_in_wire : Option (List Strip) → ℤ → ℤ → Bool

@@ -7,7 +7,8 @@
 //!
 //! The crate promises that a layout's nets are exactly these classes, in this order, that it says of each cell its net and
 //! of each net its cells, and that a layout is refused exactly where it has over 8,192 nets before any are joined. Names of
-//! nets, transistors and the counts of defects stand on it.
+//! nets, transistors and the counts of defects stand on it. The channels of transistors are the pieces of a plane of their
+//! own, which `pieces_of` finds.
 #![tactic(auto)]
 
 mod bands;
@@ -16,6 +17,7 @@ mod joining;
 mod laws;
 mod node;
 mod parts;
+mod pieces;
 mod refusal;
 mod ties;
 mod traced;
@@ -24,6 +26,7 @@ mod wiring;
 
 pub use laws::one_numbering_of_nets;
 pub use node::Node;
+pub use pieces::{Pieces, pieces_of};
 pub use refusal::TraceRefusal;
 pub use traced::Traced;
 pub use tracing::trace;

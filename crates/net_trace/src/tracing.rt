@@ -1,11 +1,11 @@
 //! The tracing of nets.
 
-ghost use Rattle.std.specs.Prelude.{◌≡◌, ◌<◌, length, All, IfOk, Err};
+ghost use Rattle.std.specs.Prelude.{◌≡◌, ◌<◌, [], length, All, IfOk, Err};
 ghost use Rattle.net_trace.specs.Touching.{traced_nets};
 ghost use Rattle.net_trace.specs.Nets.{HasMoreNets};
-ghost use Rattle.net_trace.specs.Wirings.{AreCorners};
+ghost use Rattle.net_trace.specs.Wirings.{AreCorners, AreAllBanded, IsTraced};
 
-use crate::cuts::cut_areas;
+use crate::cuts::{CutArea, cut_areas};
 use crate::node::Node;
 use crate::refusal::TraceRefusal;
 use crate::ties::edges;
@@ -32,17 +32,37 @@ pub fn trace(alloc: Global, masks: &Masks, map: &LayerMap) -> Result<Traced, Tra
 {
     let cuts = cut_areas(alloc, masks.cuts(), map.cuts())?;
     let wiring = Wiring::new(alloc, copies(alloc, masks.wires())?)?;
-    let pairs = edges(alloc, &wiring, cuts.as_slice())?;
-    let Classes { label, least } = classes_of(alloc, wiring.vertices().len(), pairs.as_slice())?;
-    let roots = corners(alloc, wiring.vertices(), least.as_slice())?;
+    let Labels { label, roots } = labels_of(alloc, &wiring, cuts.as_slice())?;
     if roots.len() > MOST_NETS {
         return Err(TraceRefusal::TooManyNets);
     }
     Ok(Traced::new(alloc, wiring, cuts, Vec::new(alloc), label, roots)?)
 }
 
+/// The nets of wires and cuts, where nothing is joined: the net of each strip of the wires, and the least node of each net.
+#[derive(Debug, Drop)]
+pub(crate) struct Labels {
+    pub label: Vec<usize>,
+    pub roots: Vec<Node>,
+}
+
+/// The nets of the wires and cuts, where nothing is joined.
+pub(crate) fn labels_of(
+    alloc: Global,
+    wiring: &Wiring,
+    cuts: &[CutArea],
+) -> Result<Labels, AllocError>
+    ensures traced { IfOk result (λ l. IsTraced (record { wires = wiring.now; cuts = cuts.now; joins = [] }) l.label.items l.roots.items) }
+    ensures banded { IfOk result (λ _. AreAllBanded wiring.now) }
+{
+    let pairs = edges(alloc, wiring, cuts)?;
+    let Classes { label, least } = classes_of(alloc, wiring.vertices().len(), pairs.as_slice())?;
+    let roots = corners(alloc, wiring.vertices(), least.as_slice())?;
+    Ok(Labels { label, roots })
+}
+
 /// The same regions once more.
-fn copies(alloc: Global, regions: &[Region]) -> Result<Vec<Region>, AllocError>
+pub(crate) fn copies(alloc: Global, regions: &[Region]) -> Result<Vec<Region>, AllocError>
     ensures { IfOk result (λ v. v.items ≡ regions.now) }
 {
     let mut copies = Vec::new(alloc);

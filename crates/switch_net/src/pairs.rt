@@ -29,7 +29,11 @@ impl Pair {
     pub fn new(a: NetId, b: NetId) -> Option<Pair>
         ensures { result ≡ (if nat_lt a.0 b.0 then Some (record { a = a; b = b }) else None) }
     {
-        if a.0 < b.0 { Some(Pair::in_order(a, b)) } else { None }
+        if a.0 < b.0 {
+            Some(Pair::in_order(a, b))
+        } else {
+            None
+        }
     }
 
     /// The pair of these nets, of which the first has the smaller number.

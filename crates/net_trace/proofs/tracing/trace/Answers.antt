@@ -1,8 +1,7 @@
-use Rattle.std.proofs.Common.{◌<◌, [], length, ap, sym, ◌∙◌, arith, subst, refl}
-use Rattle.std.specs.List.{All}
+use Rattle.std.proofs.Common.{[], ◌∙◌, arith, refl}
 use Rattle.net_trace.specs.Touching.{Nets, traced_nets}
 use Rattle.net_trace.specs.Wirings.{IsTraced}
-use Rattle.net_trace.proofs.Making.{least_below, trace_made, cuts_made, nets_made, more_made, few_made}
+use Rattle.net_trace.proofs.Making.{cuts_moved, cuts_made, nets_made, more_made, few_made}
 use Rattle.net_trace.proofs.tracing.trace.Goals as goal
 
 pub returns-clause-traced : goal.returns-clause-traced
@@ -13,31 +12,20 @@ returns-clause-traced c = c.in_ok-new.ensures ∙ nets_made c.args.map.now c.arg
 pub returns-clause-few : goal.returns-clause-few
 returns-clause-few c =
     let nets : Nets = record { wires = c.in_ok-wiring.wiring; cuts = c.in_ok-cuts.cuts.items; joins = c.new-2.result.items } in
-    few_made nets _ c.in_ok-label.field-0.label.items c.in_ok-roots.roots.items c.in_ok-new.ensures c.vertices.ensures.banded
-    (trace_made c.in_ok-wiring.wiring c.in_ok-cuts.cuts.items c.as_slice.result.now c.new-2.result.items c.vertices.result.now c.vertices-2.result.now c.in_ok-pairs.pairs.items c.as_slice-2.result.now
-    c.in_ok-label.field-0.label.items c.in_ok-label.field-0.least.items c.as_slice-3.result.now c.in_ok-roots.roots.items c.vertices.ensures.banded c.vertices.ensures.same c.vertices-2.ensures.same c.as_slice.ensures.value c.as_slice-2.ensures.value c.as_slice-3.ensures.value c.new-2.ensures.items
-    c.in_ok-pairs.ensures c.in_ok-label.ensures c.in_ok-roots.ensures)
-    (omega (arith, c.if-len-gt-MOST_NETS.false, c.len.ensures, c.in_ok-roots.roots.ok.0))
-
-pub corners-requires : goal.corners-requires
-corners-requires c =
-    subst (λ n. All (λ k. k < n) c.as_slice-3.result.now) (ap (λ l. length l) (c.vertices.ensures.same ∙ sym c.vertices-2.ensures.same))
-    (subst (λ l. All (λ k. k < length c.vertices.result.now) l) (sym c.as_slice-3.ensures.value) (least_below (length c.vertices.result.now) c.as_slice-2.result.now c.in_ok-label.field-0.label.items c.in_ok-label.field-0.least.items c.in_ok-label.ensures))
+    few_made nets _ c.in_ok-label.field-0.label.items c.in_ok-label.field-0.roots.items c.in_ok-new.ensures c.in_ok-label.ensures.banded
+    (cuts_moved c.in_ok-wiring.wiring c.as_slice.result.now c.in_ok-cuts.cuts.items c.new-2.result.items c.in_ok-label.field-0.label.items c.in_ok-label.field-0.roots.items c.as_slice.ensures.value c.new-2.ensures.items c.in_ok-label.ensures.traced)
+    (omega (arith, c.if-len-gt-MOST_NETS.false, c.len.ensures, c.in_ok-label.field-0.roots.ok.0))
 
 pub returns-then-len-gt-MOST_NETS-clause-many : goal.returns-then-len-gt-MOST_NETS-clause-many
 returns-then-len-gt-MOST_NETS-clause-many c e =
     let nets : Nets = record { wires = c.in_ok-wiring.wiring; cuts = c.in_ok-cuts.cuts.items; joins = [] } in
-    let made : IsTraced nets c.in_ok-label.field-0.label.items c.in_ok-roots.roots.items =
-    trace_made c.in_ok-wiring.wiring c.in_ok-cuts.cuts.items c.as_slice.result.now [] c.vertices.result.now c.vertices-2.result.now c.in_ok-pairs.pairs.items c.as_slice-2.result.now
-    c.in_ok-label.field-0.label.items c.in_ok-label.field-0.least.items c.as_slice-3.result.now c.in_ok-roots.roots.items c.vertices.ensures.banded c.vertices.ensures.same c.vertices-2.ensures.same c.as_slice.ensures.value c.as_slice-2.ensures.value c.as_slice-3.ensures.value refl
-    c.in_ok-pairs.ensures c.in_ok-label.ensures c.in_ok-roots.ensures in
-    more_made nets (traced_nets c.args.map.now c.args.masks.now) c.in_ok-label.field-0.label.items c.in_ok-roots.roots.items
+    let made : IsTraced nets c.in_ok-label.field-0.label.items c.in_ok-label.field-0.roots.items =
+    cuts_moved c.in_ok-wiring.wiring c.as_slice.result.now c.in_ok-cuts.cuts.items [] c.in_ok-label.field-0.label.items c.in_ok-label.field-0.roots.items c.as_slice.ensures.value refl c.in_ok-label.ensures.traced in
+    more_made nets (traced_nets c.args.map.now c.args.masks.now) c.in_ok-label.field-0.label.items c.in_ok-label.field-0.roots.items
     (nets_made c.args.map.now c.args.masks.now c.in_ok-wiring.wiring c.in_ok-cuts.cuts.items [] (c.in_ok-wiring.ensures ∙ c.in_ok-copies.ensures ∙ c.wires.ensures.same)
     (cuts_made c.args.map.now c.args.masks.now c.in_ok-cuts.cuts.items c.cuts.result.now c.cuts-2.result.now c.cuts.ensures.same c.cuts-2.ensures.same c.in_ok-cuts.ensures) refl)
-    c.vertices.ensures.banded made (omega (arith, c.if-len-gt-MOST_NETS.true, c.len.ensures, c.in_ok-roots.roots.ok.0))
+    c.in_ok-label.ensures.banded made (omega (arith, c.if-len-gt-MOST_NETS.true, c.len.ensures, c.in_ok-label.field-0.roots.ok.0))
 
 pub new-requires-3-clause-traced : goal.new-requires-3-clause-traced
 new-requires-3-clause-traced c =
-    trace_made c.in_ok-wiring.wiring c.in_ok-cuts.cuts.items c.as_slice.result.now c.new-2.result.items c.vertices.result.now c.vertices-2.result.now c.in_ok-pairs.pairs.items c.as_slice-2.result.now
-    c.in_ok-label.field-0.label.items c.in_ok-label.field-0.least.items c.as_slice-3.result.now c.in_ok-roots.roots.items c.vertices.ensures.banded c.vertices.ensures.same c.vertices-2.ensures.same c.as_slice.ensures.value c.as_slice-2.ensures.value c.as_slice-3.ensures.value c.new-2.ensures.items
-    c.in_ok-pairs.ensures c.in_ok-label.ensures c.in_ok-roots.ensures
+    cuts_moved c.in_ok-wiring.wiring c.as_slice.result.now c.in_ok-cuts.cuts.items c.new-2.result.items c.in_ok-label.field-0.label.items c.in_ok-label.field-0.roots.items c.as_slice.ensures.value c.new-2.ensures.items c.in_ok-label.ensures.traced

@@ -1,0 +1,4 @@
+pub mod Channels
+pub mod Transistors
+pub mod Refusals
+pub mod Contacts

@@ -14,13 +14,7 @@ const MOST_NETS: usize = 8192;
 const MOST_FETS: usize = 4096;
 
 /// Whether `Circuit::new` takes these parts, by the definition `AreParts`.
-pub fn are_parts(
-    labelled: &[bool],
-    fets: &[Fet],
-    high: NetId,
-    low: NetId,
-    asked: &[NetId],
-) -> bool
+pub fn are_parts(labelled: &[bool], fets: &[Fet], high: NetId, low: NetId, asked: &[NetId]) -> bool
     ensures { IsTrue result ↔ AreParts (switches labelled.now fets.now high.0 low.0 asked.now) }
 {
     let nets = labelled.len();

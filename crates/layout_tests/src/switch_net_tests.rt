@@ -218,25 +218,28 @@ fn two_paths_fight(rt: HostRuntime) -> Result<(), Fail> {
     Ok(())
 }
 
+/// Transistors between the nets 0 and 2 that are gated by the nets from 3 on, up to the end.
+fn gated_up_to(alloc: Global, end: u32) -> Result<Vec<Fet>, AllocError> {
+    let mut fets = Vec::new(alloc);
+    for net in 3..end {
+        fets.push(fet(Kind::N, net, 0, 2))?;
+    }
+    Ok(fets)
+}
+
 #[test]
 fn floating_gates_come_first_then_inputs_then_nets_asked_for(rt: HostRuntime) -> Result<(), Fail> {
     let alloc = rt.alloc();
-    // two hundred and fifty-seven inputs from net 3 on, each of which gates a transistor at net 2
-    let mut labelled = Vec::new(alloc);
-    let mut fets = Vec::new(alloc);
-    for net in 0..260u32 {
-        labelled.push(true)?;
-        if net >= 3 {
-            fets.push(fet(Kind::N, net, 0, 2))?;
-        }
-    }
+    let mut labelled = vec![in alloc; true; 260]?;
+    let many = gated_up_to(alloc, 260)?;
+    let few = gated_up_to(alloc, 259)?;
     let bad = [NetId(2), NetId(5), NetId(0)];
     let refusal = |labelled: &[bool], fets: &[Fet], asked: &[NetId]| {
         made(&rt, alloc, labelled, fets, (0, 1), asked).err()
     };
-    let many = fets.as_slice();
-    let few = &many[..256];
-    assert_eq!(rt; refusal(labelled.as_slice(), few, &bad[..1]), None);
+    let many = many.as_slice();
+    let few = few.as_slice();
+    assert_eq!(rt; refusal(labelled.as_slice(), few, &[NetId(2)]), None);
     assert_eq!(rt;
         refusal(labelled.as_slice(), few, &bad),
         Some(CircuitRefusal::NotTerminal(1))
